@@ -1,0 +1,13 @@
+use mathlib.Core.Path.{refl}
+use Rattle.util.specs.Crc.{final32}
+use Rattle.util.proofs.crc.crc32_final.Statement.{statement}
+use Rattle.util.proofs.crc.crc32_final.Tie as tie
+use Rattle.util.proofs.crc.crc32_final.Reads as reads
+use Rattle.util.proofs.crc.crc32_final.Lts as lts
+
+returns : tie.Need-returns
+unfolding final32
+returns c = refl
+
+pub crc32-final-spec : {M : Type 1} → statement M
+crc32-final-spec = tie.close (tie.spec returns)

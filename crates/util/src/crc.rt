@@ -102,15 +102,27 @@ fn eight_bytes(t: &[u32; 256], c: u32, bytes: &[u8]) -> u32
         ^ byte_in_rows(t, 7, mixed(c, bytes[0]))
 }
 
-// Fewer than eight bytes, or few enough that the smaller work of laying out one table decides.
-fn few_bytes(c: u32, bytes: &[u8]) -> u32
-    ensures { λ r. ⌜ r ≡ over byteOf32 c (now (bytes .entry)) ⌝ }
+fn byte_by_rows(t: &[u32; 256], c: u32, b: u8) -> u32
+    requires { ⌜ Rowed (now t) ⌝ }
+    ensures { λ r. ⌜ r ≡ byteOf32 c b ⌝ }
 {
-    let t = CRC32_TABLE;
-    by_byte(&t, c, bytes)
+    c / 256 ^ byte_in_rows(t, 0, mixed(c, b))
 }
 
-// Eight bytes at a time, by CRC32_ROWS, and what is left over by few_bytes.
+// What eight at a time leaves over, by the rows that are laid out already.
+fn rest_by_rows(t: &[u32; 256], c: u32, bytes: &[u8]) -> u32
+    requires { ⌜ Rowed (now t) ⌝ }
+    ensures { λ r. ⌜ r ≡ over byteOf32 c (now (bytes .entry)) ⌝ }
+{
+    let mut x = c;
+    let mut i = 0;
+    while i < bytes.len() {
+        x = byte_by_rows(t, x, bytes[i]);
+        i += 1;
+    }
+    x
+}
+
 fn by_eight(t: &[u32; 256], c: u32, bytes: &[u8]) -> u32
     requires { ⌜ Rowed (now t) ⌝ }
     ensures { λ r. ⌜ r ≡ over byteOf32 c (now (bytes .entry)) ⌝ }
@@ -122,19 +134,18 @@ fn by_eight(t: &[u32; 256], c: u32, bytes: &[u8]) -> u32
         x = eight_bytes(t, x, &bytes[i..end]);
         i = end;
     }
-    if i == bytes.len() {
-        return x;
-    }
-    few_bytes(x, &bytes[i..])
+    rest_by_rows(t, x, &bytes[i..])
 }
 
 // The register c after further bytes. CRC32 of bytes that come in pieces starts at FFFFFFFF, takes in the pieces
-// one after the other, and is the last register's exclusive-or with FFFFFFFF: crc32_final.
+// one after the other, and is the last register's exclusive-or with FFFFFFFF: crc32_final. A table is laid out at
+// each call, so a few bytes go by the one that takes a single look a byte.
 pub fn crc32_more(c: u32, bytes: &[u8]) -> u32
     ensures { λ r. ⌜ r ≡ over byteOf32 c (now (bytes .entry)) ⌝ }
 {
     if bytes.len() < 16 {
-        return few_bytes(c, bytes);
+        let t = CRC32_TABLE;
+        return by_byte(&t, c, bytes);
     }
     let t = CRC32_ROWS;
     by_eight(&t, c, bytes)

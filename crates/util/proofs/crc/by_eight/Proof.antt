@@ -4,14 +4,14 @@ use native.Mathlib.Omega.{arith}
 use lib.ListN.{length, drop}
 use denote.Ref.{now}
 use Rattle.util.specs.Crc.{over, byteOf32}
-use Rattle.util.proofs.CrcLaws.{over-part, over-end, over-rest}
+use Rattle.util.proofs.CrcLaws.{over-part, over-rest}
 use borrow.Author.Needs.{needs}
 use Rattle.util.proofs.crc.by_eight.Statement.{statement}
 use Rattle.util.proofs.crc.by_eight.Tie as tie
 use Rattle.util.proofs.crc.by_eight.Reads as reads
 use Rattle.util.proofs.crc.by_eight.Lts as lts
 use Rattle.util.proofs.crc.eight_bytes.Reads as eight-bytes-reads
-use Rattle.util.proofs.crc.few_bytes.Reads as few-bytes-reads
+use Rattle.util.proofs.crc.rest_by_rows.Reads as rest-by-rows-reads
 
 abbrev Inv-loop : tie.InvT-loop
 Inv-loop t c bytes x₀ i₀ x i = (i ≤ length bytes) × (over byteOf32 x (drop i bytes) ≡ over byteOf32 x₀ bytes)
@@ -48,25 +48,22 @@ loop-again c =
     let l = c .before .before .before in
     (search needs, over-part byteOf32 (now (l .before .before .args .bytes)) (l .loop .i) (l .loop .x) _ _ (l .loop .inv .1) (l .loop .i + 8) (omega arith) (c .eight-bytes .ensures))
 
+sub-rest-by-rows : tie.Need-sub-rest-by-rows Inv-loop μ-loop
+sub-rest-by-rows c = search needs
+
+part-rest-by-rows-start : tie.Need-part-rest-by-rows-start Inv-loop μ-loop
+part-rest-by-rows-start c = search needs
+
+part-rest-by-rows-end : tie.Need-part-rest-by-rows-end Inv-loop μ-loop
+part-rest-by-rows-end c = search needs
+
+rest-by-rows-requires : tie.Need-rest-by-rows-requires Inv-loop μ-loop
+rest-by-rows-requires c κs = search needs
+
 returns : tie.Need-returns Inv-loop μ-loop
-returns c = let l = c .before .before in over-end byteOf32 (now (l .before .before .args .bytes)) (l .loop .i) (l .loop .x) _ (l .loop .inv .1) (omega arith)
-
-sub-few-bytes : tie.Need-sub-few-bytes Inv-loop μ-loop
-sub-few-bytes c = search needs
-
-part-few-bytes-start : tie.Need-part-few-bytes-start Inv-loop μ-loop
-part-few-bytes-start c = search needs
-
-part-few-bytes-end : tie.Need-part-few-bytes-end Inv-loop μ-loop
-part-few-bytes-end c = search needs
-
-few-bytes-requires : tie.Need-few-bytes-requires Inv-loop μ-loop
-few-bytes-requires c κs = search needs
-
-returns-2 : tie.Need-returns-2 Inv-loop μ-loop
-returns-2 c =
-    let l = c .before .before .before .before in
-    over-rest byteOf32 (now (l .before .before .args .bytes)) (l .loop .i) (l .loop .x) _ _ (l .loop .inv .1) (c .few-bytes .ensures)
+returns c =
+    let l = c .before .before .before in
+    over-rest byteOf32 (now (l .before .before .args .bytes)) (l .loop .i) (l .loop .x) _ _ (l .loop .inv .1) (c .rest-by-rows .ensures)
 
 pub by-eight-spec : {M : Type 1} → statement M
 by-eight-spec =
@@ -83,9 +80,8 @@ by-eight-spec =
     eight-bytes-requires
     loop-less
     loop-again
-    returns
-    sub-few-bytes
-    part-few-bytes-start
-    part-few-bytes-end
-    few-bytes-requires
-    returns-2)
+    sub-rest-by-rows
+    part-rest-by-rows-start
+    part-rest-by-rows-end
+    rest-by-rows-requires
+    returns)

@@ -1,0 +1,26 @@
+use mathlib.Core.Path.{refl, sym, ap, _∙_}
+use mathlib.Core.List.{[]}
+use Prim.Native.Nat.{_/_}
+use Rattle.util.specs.Crc.{times, bitOf32}
+use Rattle.util.proofs.CrcLaws.{first-byte}
+use borrow.Author.Needs.{needs}
+use Rattle.util.proofs.crc.byte_by_rows.Statement.{statement}
+use Rattle.util.proofs.crc.byte_by_rows.Tie as tie
+use Rattle.util.proofs.crc.byte_by_rows.Reads as reads
+use Rattle.util.proofs.crc.byte_by_rows.Lts as lts
+use Rattle.util.proofs.crc.byte_in_rows.Reads as byte-in-rows-reads
+use Rattle.util.proofs.crc.mixed.Reads as mixed-reads
+
+mixed-requires : tie.Need-mixed-requires
+mixed-requires c κs = search needs
+
+byte-in-rows-requires : tie.Need-byte-in-rows-requires
+byte-in-rows-requires c κs = search needs
+
+returns : tie.Need-returns
+returns c =
+    let a = c .before .before .args in
+    sym (first-byte (a .c) (a .b) _ (a .c / 256) [] (search needs) (c .byte-in-rows .ensures ∙ ap (times 8 bitOf32) (c .before .mixed .ensures)) refl)
+
+pub byte-by-rows-spec : {M : Type 1} → statement M
+byte-by-rows-spec = tie.close (tie.spec mixed-requires byte-in-rows-requires returns)

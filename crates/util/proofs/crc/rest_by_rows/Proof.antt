@@ -1,0 +1,52 @@
+use mathlib.Core.Path.{_≡_, refl}
+use Prim.Native.Nat.{_≤_, _-_}
+use lib.ListN.{length, drop}
+use Rattle.util.specs.Crc.{over, byteOf32}
+use Rattle.util.proofs.CrcLaws.{over-turn, over-end}
+use borrow.Author.Needs.{needs}
+use Rattle.util.proofs.crc.rest_by_rows.Statement.{statement}
+use Rattle.util.proofs.crc.rest_by_rows.Tie as tie
+use Rattle.util.proofs.crc.rest_by_rows.Reads as reads
+use Rattle.util.proofs.crc.rest_by_rows.Lts as lts
+use Rattle.util.proofs.crc.byte_by_rows.Reads as byte-by-rows-reads
+
+abbrev Inv-loop : tie.InvT-loop
+Inv-loop t c bytes x₀ i₀ x i = (i ≤ length bytes) × (over byteOf32 x (drop i bytes) ≡ over byteOf32 x₀ bytes)
+
+abbrev μ-loop : tie.MeasureT-loop
+μ-loop t c bytes x₀ i₀ x i = length bytes - i
+
+loop-holds : tie.Need-loop-holds Inv-loop μ-loop
+loop-holds c = (search needs, refl)
+
+shared-slice-read-byte-by-rows : tie.Need-shared-slice-read-byte-by-rows Inv-loop μ-loop
+shared-slice-read-byte-by-rows c = search needs
+
+byte-by-rows-requires : tie.Need-byte-by-rows-requires Inv-loop μ-loop
+byte-by-rows-requires c κs = search needs
+
+add-i : tie.Need-add-i Inv-loop μ-loop
+add-i c = search needs
+
+loop-less : tie.Need-loop-less Inv-loop μ-loop
+loop-less c = search needs
+
+loop-again : tie.Need-loop-again Inv-loop μ-loop
+loop-again c = (search needs, over-turn byteOf32 _ _ _ _ (c .before .before .before .loop .inv .1) _ (c .before .before .loop-test .taken) (c .byte-by-rows .ensures))
+
+returns : tie.Need-returns Inv-loop μ-loop
+returns c = over-end byteOf32 _ _ _ _ (c .before .loop .inv .1) (c .loop-test .left)
+
+pub rest-by-rows-spec : {M : Type 1} → statement M
+rest-by-rows-spec =
+    tie.close
+    (tie.spec
+    Inv-loop
+    μ-loop
+    loop-holds
+    shared-slice-read-byte-by-rows
+    byte-by-rows-requires
+    add-i
+    loop-less
+    loop-again
+    returns)

@@ -1,6 +1,5 @@
 -- Answers that are enums in Rattle, as the numbers that C and Rust get.
 -- Assumes nothing.
-use mathlib.Core.Bool.{Bool, true, false}
 use Prim.Native.Nat.{ℕ}
 use Rattle.util.specs.declared.utf16.Utf16Ascii.{Utf16Ascii}
 use Rattle.util.specs.declared.utf16.Utf16Ascii.the-variants.{Written, OddLength, NoRoom}
@@ -10,7 +9,3 @@ abbrev pub utf16Number : Utf16Ascii → ℕ
 utf16Number (Written n) = n
 utf16Number OddLength = 0xFFFFFFFFFFFFFFFF
 utf16Number NoRoom = 0xFFFFFFFFFFFFFFFE
-
-abbrev pub flag : Bool → ℕ
-flag true = 1
-flag false = 0

@@ -1,10 +1,11 @@
 // The face to C and Rust: what `rt staticlib capi` exports, over the proved library. A slice is a pointer and a length.
 ghost use mathlib.Core.Path.{_≡_};
 ghost use lib.ListN.{length};
+ghost use Rattle.bits.specs.Bits.{flag};
 ghost use Rattle.util.specs.Crc.{over, crcOf8, crcOf32, byteOf32};
 ghost use Rattle.util.specs.Utf16.{utf16Answer, utf16Leaves};
 ghost use Rattle.util.specs.Utf8.{isUtf8};
-ghost use Rattle.capi.specs.Numbers.{utf16Number, flag};
+ghost use Rattle.capi.specs.Numbers.{utf16Number};
 use util::Utf16Ascii;
 
 #[no_mangle]

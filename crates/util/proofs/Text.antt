@@ -10,7 +10,7 @@ use native.Mathlib.Omega.{arith}
 use borrow.Author.Tests.{lt-leb, le-leb, lt-ltb, le-ltb}
 use lib.ListN.{length, getD, take, drop, set, length-set, length-append, take-append-drop}
 use lib.Seq.{length-take-le, take-suc-set, drop-set-lt, drop-drop, drop-length}
-use Rattle.util.specs.Front.{onto}
+use Rattle.bits.specs.Front.{onto}
 use Rattle.util.specs.Range.{range}
 use Rattle.util.specs.Utf16.{units, Char, scalar, unpaired, isPair, alone, decode, kept, keptOf, textOf}
 use Rattle.util.specs.Shown.{shown}

@@ -1,7 +1,6 @@
 pub mod Crc
 pub mod Tables
 pub mod Range
-pub mod Front
 pub mod Utf16
 pub mod Shown
 pub mod Utf8

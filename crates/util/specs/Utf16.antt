@@ -6,7 +6,7 @@ use mathlib.Core.List.{List, [], _∷_, _++_}
 use Prim.Native.Nat.{ℕ, _+_, _-_, _*_, _/_, _%_}
 use lib.Dec.{leb, ltb, eqb}
 use lib.ListN.{length}
-use Rattle.util.specs.Front.{onto}
+use Rattle.bits.specs.Front.{onto}
 use Rattle.util.specs.Range.{range}
 use Rattle.util.specs.declared.utf16.Utf16Ascii.{Utf16Ascii}
 use Rattle.util.specs.declared.utf16.Utf16Ascii.the-variants.{Written, OddLength, NoRoom}

@@ -2,7 +2,7 @@
 ghost use mathlib.Core.Path.{_≡_};
 ghost use Prim.Native.Nat.{_+_, _*_, _%_, _<_, _≤_};
 ghost use lib.ListN.{length, getD, drop};
-ghost use Rattle.util.specs.Front.{onto};
+ghost use Rattle.bits.specs.Front.{onto};
 ghost use Rattle.util.specs.Utf16.{units, isPair, alone, kept, utf16Text, utf16Answer, utf16Leaves};
 ghost use Rattle.util.specs.Shown.{shown};
 

@@ -3,7 +3,7 @@
 use mathlib.Core.Path.{_≡_, refl, sym, ap, ap₂, subst, _∙_}
 use mathlib.Core.Bool.{Bool, true, false, _&&_}
 use mathlib.Core.List.{List, [], _∷_, _++_, append-assoc}
-use Prim.Native.Nat.{ℕ, zero, suc, _+_, _-_, _*_, _%_, _<_, _≤_}
+use Prim.Native.Nat.{ℕ, zero, suc, _+_, _-_, _*_, _/_, _<_, _≤_}
 use native.Mathlib.Nat.{not-suc-le-zero}
 use native.Mathlib.Numerals.{add-one}
 use native.Mathlib.Omega.{arith}
@@ -13,7 +13,7 @@ use lib.Seq.{length-take-le, take-suc-set, drop-set-lt, drop-drop, drop-length}
 use Rattle.bits.specs.Front.{onto}
 use Rattle.util.specs.Range.{range}
 use Rattle.util.specs.Utf16.{units, Char, scalar, unpaired, isPair, alone, decode, kept, keptOf, textOf}
-use Rattle.util.specs.Shown.{shown}
+use Rattle.util.specs.Shown.{shown, Shows}
 use Rattle.util.proofs.Units.{units-cons, units-none}
 
 nothing : textOf [] ≡ []
@@ -50,82 +50,101 @@ pos u zero h = absurd (never (range 0xD800 0xDBFF u) h)
     never false e = let z : _≡_ {A = ℕ} 0 1 = cc in omega arith
 pos u (suc v) h = omega arith
 
--- the text of the first n places of out, with what the rest of the bytes shows, is the whole text; the other places are as they were
-pub record Going (bs out₀ out : List ℕ) (i n : ℕ) : Type 0 where
-  pub inside : i ≤ length bs
-  pub even : i % 2 ≡ 0
-  pub long : length out ≡ length out₀
-  pub small : 2 * n ≤ i
-  pub text : take n out ++ textOf (units (drop i bs)) ≡ textOf (units bs)
-  pub rest : drop n out ≡ drop n out₀
+-- ---- a step
 
-pub going-start : (bs out : List ℕ) → Going bs out out 0 0
-going-start bs out = record { inside = omega arith; even = refl; long = refl; small = omega arith; text = refl; rest = refl }
-
-module _ (bs out₀ out : List ℕ) (i n : ℕ) (fits : length bs ≤ 2 * length out₀) (g : Going bs out₀ out i n) (u v : ℕ)
-    (hu : u ≡ getD (units (drop i bs)) 0 0) (hv : v ≡ getD (units (drop (i + 2) bs)) 0 0) (more : i + 2 ≤ length bs) where
+module _ (bs : List ℕ) (i u v : ℕ) (hu : u ≡ getD (units (drop i bs)) 0 0) (hv : v ≡ getD (units (drop (i + 2) bs)) 0 0) (more : i + 2 ≤ length bs) where
   first : units (drop i bs) ≡ u ∷ units (drop (i + 2) bs)
   first = units-cons bs i (omega arith) ∙ ap (λ (x : ℕ). x ∷ units (drop (i + 2) bs)) (sym hu)
 
-  pub going-pair : isPair u v ≡ true → (0 < v → i + 2 + 2 ≤ length bs) → Going bs out₀ out (i + 4) n
-  going-pair h w =
+  -- a pair shows nothing: its character is past 7E
+  pub shows-pair : isPair u v ≡ true → (0 < v → i + 2 + 2 ≤ length bs) → Shows bs i 0 (i + 4)
+  shows-pair h w =
       let k : i + 2 + 2 ≤ length bs = w (pos u v h) in
       let e : i + 2 + 2 ≡ i + 4 = omega arith in
       record {
-        inside = omega arith;
-        even = omega arith;
-        long = g .long;
-        small = omega arith;
         text =
-            ap (λ (t : List ℕ). take n out ++ t)
-            (sym (ap textOf (first ∙ ap (λ (us : List ℕ). u ∷ us) (units-cons bs (i + 2) (omega arith) ∙ ap₂ (λ (x j : ℕ). x ∷ units (drop j bs)) (sym hv) e))
-            ∙ pair u v (units (drop (i + 4) bs)) h))
-            ∙ g .text;
-        rest = g .rest;
+            ap textOf (first ∙ ap (λ (us : List ℕ). u ∷ us) (units-cons bs (i + 2) (omega arith) ∙ ap₂ (λ (x j : ℕ). x ∷ units (drop j bs)) (sym hv) e))
+            ∙ pair u v (units (drop (i + 4) bs)) h;
+        on = omega arith;
+        inside = omega arith;
       }
 
-  alone-first : isPair u v ≡ false → textOf (units (drop i bs)) ≡ kept (alone u) ++ textOf (units (drop (i + 2) bs))
-  alone-first h = ap textOf first ∙ single u (units (drop (i + 2) bs)) (subst (λ (x : ℕ). isPair u x ≡ false) hv h)
+  pub shows-alone : isPair u v ≡ false → (b : ℕ) → shown b ≡ kept (alone u) → Shows bs i b (i + 2)
+  shows-alone h b e = record {
+    text =
+        ap textOf first
+        ∙ single u (units (drop (i + 2) bs)) (subst (λ (x : ℕ). isPair u x ≡ false) hv h)
+        ∙ ap (λ (t : List ℕ). t ++ textOf (units (drop (i + 2) bs))) (sym e);
+    on = omega arith;
+    inside = more;
+  }
 
-  pub going-none : isPair u v ≡ false → (b : ℕ) → shown b ≡ kept (alone u) → b ≡ 0 → Going bs out₀ out (i + 2) n
-  going-none h b eb z =
-      record {
-        inside = omega arith;
-        even = omega arith;
-        long = g .long;
-        small = omega arith;
-        text =
-            ap (λ (t : List ℕ). take n out ++ t) (sym (alone-first h ∙ ap (λ (t : List ℕ). t ++ textOf (units (drop (i + 2) bs))) (sym eb ∙ ap shown z)))
-            ∙ g .text;
-        rest = g .rest;
-      }
+-- ---- a loop of steps that counts
 
-  pub going-one : isPair u v ≡ false → (b : ℕ) → shown b ≡ kept (alone u) → 0 < b → Going bs out₀ (set out n b) (i + 2) (n + 1)
-  going-one h b eb z =
-      let room : n < length out = omega (arith, g .long) in
-      record {
-        inside = omega arith;
-        even = omega arith;
-        long = length-set out n b ∙ g .long;
-        small = omega arith;
-        text =
-            ap (λ (t : List ℕ). t ++ textOf (units (drop (i + 2) bs))) (ap (λ (k : ℕ). take k (set out n b)) (add-one n) ∙ take-suc-set out n b room)
-            ∙ append-assoc (take n out) (b ∷ []) (textOf (units (drop (i + 2) bs)))
-            ∙ ap (λ (t : List ℕ). take n out ++ t) (sym (alone-first h ∙ ap (λ (t : List ℕ). t ++ textOf (units (drop (i + 2) bs))) (sym eb ∙ shown-one b z)))
-            ∙ g .text;
-        rest =
-            drop-set-lt (n + 1) out n b (omega arith) ∙ sym (drop-drop 1 n out) ∙ ap (drop 1) (g .rest) ∙ drop-drop 1 n out₀;
-      }
+-- n characters, and what is shown from i on, are as many as the whole text has
+pub record Counting (bs : List ℕ) (i n : ℕ) : Type 0 where
+  pub inside : i ≤ length bs
+  pub small : 2 * n ≤ i
+  pub sum : n + length (textOf (units (drop i bs))) ≡ length (textOf (units bs))
 
-pub going-end : (bs out₀ out : List ℕ) (i n : ℕ) → length bs ≤ 2 * length out₀ → Going bs out₀ out i n → length bs ≤ i
+pub counting-start : (bs : List ℕ) → Counting bs 0 0
+counting-start bs = record { inside = omega arith; small = omega arith; sum = omega arith }
+
+module _ (bs : List ℕ) (i n b next : ℕ) (g : Counting bs i n) (s : Shows bs i b next) where
+  after : n + (length (shown b) + length (textOf (units (drop next bs)))) ≡ length (textOf (units bs))
+  after = ap (λ (k : ℕ). n + k) (sym (ap length (s .text) ∙ length-append (shown b) (textOf (units (drop next bs))))) ∙ g .sum
+
+  pub counting-none : b ≡ 0 → Counting bs next n
+  counting-none z = record { inside = s .inside; small = omega (arith, s .on, g .small); sum = omega (arith, after, ap (λ (k : ℕ). length (shown k)) z) }
+
+  pub counting-one : 0 < b → Counting bs next (n + 1)
+  counting-one p = record { inside = s .inside; small = omega (arith, s .on, g .small); sum = omega (arith, after, ap length (shown-one b p)) }
+
+none-left : (bs : List ℕ) (i : ℕ) → length bs ≤ i + 1 → textOf (units (drop i bs)) ≡ []
+none-left bs i h = ap textOf (units-none bs i h) ∙ nothing
+
+pub counting-end : (bs : List ℕ) (i n : ℕ) → Counting bs i n → length bs ≤ i + 1 → n ≡ length (textOf (units bs))
+counting-end bs i n g end = omega (arith, g .sum, ap length (none-left bs i end))
+
+-- ---- a loop of steps that writes
+
+-- the first n places of out, and what is shown from i on, are the whole text; the other places are as they were
+pub record Writing (bs out₀ out : List ℕ) (i n : ℕ) : Type 0 where
+  pub counts : Counting bs i n
+  pub long : length out ≡ length out₀
+  pub text : take n out ++ textOf (units (drop i bs)) ≡ textOf (units bs)
+  pub rest : drop n out ≡ drop n out₀
+
+pub writing-start : (bs out : List ℕ) → Writing bs out out 0 0
+writing-start bs out = record { counts = counting-start bs; long = refl; text = refl; rest = refl }
+
+module _ (bs out₀ out : List ℕ) (i n b next : ℕ) (g : Writing bs out₀ out i n) (s : Shows bs i b next) where
+  pub writing-none : b ≡ 0 → Writing bs out₀ out next n
+  writing-none z = record {
+    counts = counting-none bs i n b next (g .counts) s z;
+    long = g .long;
+    text = ap (λ (t : List ℕ). take n out ++ t) (sym (s .text ∙ ap (λ (k : ℕ). shown k ++ textOf (units (drop next bs))) z)) ∙ g .text;
+    rest = g .rest;
+  }
+
+  pub writing-one : 0 < b → n < length out → Writing bs out₀ (set out n b) next (n + 1)
+  writing-one p room = record {
+    counts = counting-one bs i n b next (g .counts) s p;
+    long = length-set out n b ∙ g .long;
+    text =
+        ap (λ (t : List ℕ). t ++ textOf (units (drop next bs))) (ap (λ (k : ℕ). take k (set out n b)) (add-one n) ∙ take-suc-set out n b room)
+        ∙ append-assoc (take n out) (b ∷ []) (textOf (units (drop next bs)))
+        ∙ ap (λ (t : List ℕ). take n out ++ t) (sym (s .text ∙ ap (λ (t : List ℕ). t ++ textOf (units (drop next bs))) (shown-one b p)))
+        ∙ g .text;
+    rest = drop-set-lt (n + 1) out n b (omega arith) ∙ sym (drop-drop 1 n out) ∙ ap (drop 1) (g .rest) ∙ drop-drop 1 n out₀;
+  }
+
+pub writing-end : (bs out₀ out : List ℕ) (i n : ℕ) → length bs / 2 ≤ length out₀ → Writing bs out₀ out i n → length bs ≤ i + 1
     → (n ≡ length (textOf (units bs))) × (out ≡ onto (textOf (units bs)) out₀)
-going-end bs out₀ out i n fits g end = (count, sym (take-append-drop n out) ∙ ap₂ _++_ all (g .rest ∙ ap (λ (k : ℕ). drop k out₀) count))
+writing-end bs out₀ out i n fits g end = (count, sym (take-append-drop n out) ∙ ap₂ _++_ all (g .rest ∙ ap (λ (k : ℕ). drop k out₀) count))
   where
-    none : textOf (units (drop i bs)) ≡ []
-    none = ap textOf (units-none bs i (omega arith)) ∙ nothing
-
     all : take n out ≡ textOf (units bs)
-    all = sym (append-nil (take n out)) ∙ ap (λ (t : List ℕ). take n out ++ t) (sym none) ∙ g .text
+    all = sym (append-nil (take n out)) ∙ ap (λ (t : List ℕ). take n out ++ t) (sym (none-left bs i end)) ∙ g .text
 
     count : n ≡ length (textOf (units bs))
-    count = sym (length-take-le n out (omega (arith, g .long))) ∙ ap length all
+    count = counting-end bs i n (g .counts) end

@@ -12,3 +12,4 @@ pub use crc::crc32_start;
 pub use utf8::is_utf8;
 pub use utf16::Utf16Ascii;
 pub use utf16::bytes_to_utf16_ascii;
+pub use utf16::utf16_ascii_count;

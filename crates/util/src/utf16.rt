@@ -1,10 +1,10 @@
 // The text of little-endian UTF-16 units, in the characters that a sheet shows.
 ghost use mathlib.Core.Path.{_≡_};
-ghost use Prim.Native.Nat.{_+_, _*_, _%_, _<_, _≤_};
+ghost use Prim.Native.Nat.{_+_, _/_, _<_, _≤_};
 ghost use lib.ListN.{length, getD, drop};
 ghost use Rattle.bits.specs.Front.{onto};
 ghost use Rattle.util.specs.Utf16.{units, isPair, alone, kept, utf16Text, utf16Answer, utf16Leaves};
-ghost use Rattle.util.specs.Shown.{shown};
+ghost use Rattle.util.specs.Shown.{shown, Shows};
 
 // What writing a text answers: how many bytes it wrote, or why it wrote none.
 pub enum Utf16Ascii {
@@ -59,25 +59,59 @@ fn kept_alone(u: u16) -> u8
     0
 }
 
+// What the unit at a place shows, with the next where the two are a pair, and the place after them. 0 shows nothing.
+struct Step {
+    byte: u8,
+    next: usize,
+}
+
+fn next_shown(bytes: &[u8], i: usize) -> Step
+    requires { ⌜ i + 2 ≤ length (now bytes) ⌝ }
+    ensures { λ r. ⌜ Shows (now (bytes .entry)) i (r .byte) (r .next) ⌝ }
+{
+    let u = unit_at(bytes, i);
+    let v = unit_at(bytes, i + 2);
+    if is_pair(u, v) {
+        return Step {
+            byte: 0,
+            next: i + 4,
+        };
+    }
+    Step {
+        byte: kept_alone(u),
+        next: i + 2,
+    }
+}
+
+// How many bytes the text of the bytes has, for who does not want it written. A last odd byte counts for nothing.
+pub fn utf16_ascii_count(bytes: &[u8]) -> usize
+    ensures { λ r. ⌜ r ≡ length (utf16Text (now (bytes .entry))) ⌝ }
+{
+    let mut i = 0;
+    let mut n = 0;
+    while 2 <= bytes.len() - i {
+        let s = next_shown(bytes, i);
+        i = s.next;
+        if s.byte != 0 {
+            n += 1;
+        }
+    }
+    n
+}
+
 // The text of the units, to the front of out.
 fn write_text(bytes: &[u8], out: &mut [u8]) -> usize
-    requires { ⌜ (length (now bytes) % 2 ≡ 0) × (length (now bytes) ≤ 2 * length (now out)) ⌝ }
+    requires { ⌜ length (now bytes) / 2 ≤ length (now out) ⌝ }
     ensures { λ r. ⌜ (r ≡ length (utf16Text (now (bytes .entry)))) × (now (out .exit) ≡ onto (utf16Text (now (bytes .entry))) (now (out .entry))) ⌝ }
 {
     let mut i = 0;
     let mut n = 0;
-    while i < bytes.len() {
-        let u = unit_at(bytes, i);
-        let v = unit_at(bytes, i + 2);
-        if is_pair(u, v) {
-            i += 4;
-        } else {
-            i += 2;
-            let b = kept_alone(u);
-            if b != 0 {
-                out[n] = b;
-                n += 1;
-            }
+    while 2 <= bytes.len() - i {
+        let s = next_shown(bytes, i);
+        i = s.next;
+        if s.byte != 0 {
+            out[n] = s.byte;
+            n += 1;
         }
     }
     n

@@ -91,7 +91,7 @@ fn utf16(input: &[u8], room: usize, out: &mut [u8; ROOM]) -> usize
 }
 
 // The answer to an input, to the front of out, and how many bytes it has.
-pub fn answer(kind: &[u8], input: &[u8], out: &mut [u8; ROOM]) -> usize
+pub(crate) fn answer(kind: &[u8], input: &[u8], out: &mut [u8; ROOM]) -> usize
     requires { ⌜ length (now out) ≡ 256 ⌝ }
     ensures { λ _. ⌜ length (now (out .exit)) ≡ 256 ⌝ }
 {

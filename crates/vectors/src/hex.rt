@@ -5,11 +5,11 @@ use check::same;
 use libc::STDOUT_FILENO;
 
 // Room for the bytes of a word of a line.
-pub const ROOM: usize = 256;
+pub(crate) const ROOM: usize = 256;
 // Two answers that are no number of bytes: what was asked cannot be read,
-pub const MALFORMED: usize = 1000;
+pub(crate) const MALFORMED: usize = 1000;
 // and a lent buffer was changed where it should not have been.
-pub const CHANGED: usize = 1001;
+pub(crate) const CHANGED: usize = 1001;
 
 // The number that a digit stands for, or 16 where it is no digit.
 fn digit(b: u8) -> u8 {
@@ -30,7 +30,7 @@ fn digit(b: u8) -> u8 {
 
 // The bytes of a word, to the front of out, and how many there are. The clauses, here and in answers, say that out
 // keeps its length: a caller that takes a part of it has to know.
-pub fn unhex(word: &[u8], out: &mut [u8; ROOM]) -> usize
+pub(crate) fn unhex(word: &[u8], out: &mut [u8; ROOM]) -> usize
     requires { ⌜ length (now out) ≡ 256 ⌝ }
     ensures { λ _. ⌜ length (now (out .exit)) ≡ 256 ⌝ }
 {
@@ -68,7 +68,7 @@ fn print_byte(b: u8) {
 }
 
 // No bytes are written as -, as they are read.
-pub fn print_bytes(bytes: &[u8]) {
+pub(crate) fn print_bytes(bytes: &[u8]) {
     if bytes.len() == 0 {
         io::write_all(STDOUT_FILENO, b"-");
     }

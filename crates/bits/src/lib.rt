@@ -1,7 +1,11 @@
-// Writers of a few bytes at the front of a lent buffer.
-// Each writes all of its bytes and returns how many they are, or, where the buffer has no room for them, writes nothing and returns 0.
+// Bytes at the front of a lent buffer, and numbers of several bytes.
+ghost use mathlib.Core.Path.{_≡_};
 ghost use mathlib.Core.List.{_∷_, []};
+ghost use Rattle.bits.specs.Bits.{le2, le4, le8};
 ghost use Rattle.bits.specs.Front.{Put};
+
+// A writer writes all of its bytes and returns how many they are, or, where the buffer has no room for them, writes nothing and
+// returns 0.
 
 pub fn put1(a: u8, out: &mut [u8]) -> usize
     ensures { λ r. ⌜ Put (a ∷ []) (now (out .entry)) (now (out .exit)) r ⌝ }
@@ -61,4 +65,23 @@ pub fn put_all(bytes: &[u8], out: &mut [u8]) -> usize
         i += 1;
     }
     i
+}
+
+// Numbers of two, four and eight bytes, little-endian: the first byte is the least significant.
+pub fn le16(a: u8, b: u8) -> u16
+    ensures { λ r. ⌜ r ≡ le2 a b ⌝ }
+{
+    a as u16 + b as u16 * 256
+}
+
+pub fn le32(a: u8, b: u8, c: u8, d: u8) -> u32
+    ensures { λ r. ⌜ r ≡ le4 a b c d ⌝ }
+{
+    a as u32 + b as u32 * 256 + c as u32 * 65536 + d as u32 * 16777216
+}
+
+pub fn le64(a: u8, b: u8, c: u8, d: u8, e: u8, f: u8, g: u8, h: u8) -> u64
+    ensures { λ r. ⌜ r ≡ le8 a b c d e f g h ⌝ }
+{
+    le32(a, b, c, d) as u64 + le32(e, f, g, h) as u64 * 0x1_0000_0000
 }

@@ -1,0 +1,4 @@
+pub mod AdapterLaws
+pub mod NameLaws
+pub mod DecodeLaws
+pub mod FitLaws

@@ -1,0 +1,5 @@
+pub mod Adapters
+pub mod Rows
+pub mod Names
+pub mod Decode
+pub mod Fit

@@ -1,0 +1,5 @@
+pub mod RecordLaws
+pub mod Turns
+pub mod TextLaws
+pub mod Known
+pub mod Lengths

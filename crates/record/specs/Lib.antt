@@ -1,0 +1,3 @@
+pub mod Record
+pub mod Write
+pub mod Lengths

@@ -3,3 +3,4 @@ pub mod Turns
 pub mod TextLaws
 pub mod Known
 pub mod Lengths
+pub mod WriteLaws

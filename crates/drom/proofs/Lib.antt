@@ -1,0 +1,6 @@
+pub mod Joined
+pub mod WalkLaws
+pub mod HeaderLaws
+pub mod ReportLaws
+pub mod WalkTurns
+pub mod Demand2

@@ -1,0 +1,18 @@
+use borrow.Author.Needs.{needs}
+use Rattle.drom.proofs.header.body_start.Statement.{statement}
+use Rattle.drom.proofs.header.body_start.Tie as tie
+use Rattle.drom.proofs.header.body_start.Reads as reads
+use Rattle.drom.proofs.header.body_start.Lts as lts
+use Rattle.drom.proofs.header.is_tbt3.Reads as is-tbt3-reads
+
+is-tbt3-requires : tie.Need-is-tbt3-requires
+is-tbt3-requires c κs = search needs
+
+returns : tie.Need-returns
+returns c = rw (← c .before .is-tbt3 .ensures, c .if1 .taken)
+
+returns-2 : tie.Need-returns-2
+returns-2 c = rw (← c .before .is-tbt3 .ensures, c .if1 .left)
+
+pub body-start-spec : {M : Type 1} → statement M
+body-start-spec = tie.close (tie.spec is-tbt3-requires returns returns-2)

@@ -1,0 +1,22 @@
+use borrow.Author.Tests.{lt-ltb, le-ltb, eq-eqb, ne-eqb}
+use mathlib.Core.Path.{ap}
+use Prim.Native.Nat.{ℕ}
+use lib.Dec.{eqb}
+use borrow.Author.Needs.{needs}
+use Rattle.drom.proofs.header.is_accepted.Statement.{statement}
+use Rattle.drom.proofs.header.is_accepted.Tie as tie
+use Rattle.drom.proofs.header.is_accepted.Reads as reads
+use Rattle.drom.proofs.header.is_accepted.Lts as lts
+use Rattle.drom.proofs.header.header_refusal.Reads as header-refusal-reads
+
+returns : tie.Need-returns
+returns c = rw (lt-ltb _ _ (c .if1 .taken))
+
+header-refusal-requires : tie.Need-header-refusal-requires
+header-refusal-requires c κs = search needs
+
+returns-2 : tie.Need-returns-2
+returns-2 c = rw (le-ltb _ _ (c .before .if1 .left)) (ap (λ (n : ℕ). eqb n 0) (c .header-refusal .ensures))
+
+pub is-accepted-spec : {M : Type 1} → statement M
+is-accepted-spec = tie.close (tie.spec returns header-refusal-requires returns-2)

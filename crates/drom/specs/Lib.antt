@@ -1,0 +1,7 @@
+pub mod Numbers
+pub mod Header
+pub mod Walk
+pub mod Cut
+pub mod Report
+pub mod Parts
+pub mod Walking

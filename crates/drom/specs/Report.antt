@@ -1,0 +1,71 @@
+-- Document 01, "Numbers given back": the report of a whole DROM, for a list, the DROM's bytes and the size of the record buffer lent;
+-- and what the buffer is then.
+-- Assumes nothing.
+use mathlib.Core.Bool.{true, false, cond}
+use mathlib.Core.List.{List, [], _∷_, _++_, flatten}
+use Prim.Native.Nat.{ℕ}
+use lib.Dec.{eqb}
+use lib.ListN.{length, drop}
+use Rattle.bits.specs.Front.{onto}
+use Rattle.entry.specs.Adapters.{kindIn}
+use Rattle.drom.specs.Numbers.{firstOf}
+use Rattle.drom.specs.Header.{crc8In, uuidIn, crc32In, versionIn, lengthIn, isTbt3, bodyStart, crc8Right, crc32Right, openTests, headerTests}
+use Rattle.drom.specs.Walk.{Walked, walkOf}
+use Rattle.drom.specs.declared.reader.Report.{Report}
+
+-- "Order for a whole DROM: 5, 4, 1, 2, 3, then entry by entry ..": the number before the entries, or 0
+abbrev pub refusalOf : List ℕ → List ℕ → ℕ → ℕ
+refusalOf list drom room = firstOf (openTests list (length drom) room ++ headerTests drom)
+
+-- "For 1 to 5 .. all but the number is zero or no."
+abbrev pub refusedReport : ℕ → Report
+refusedReport n =
+    record {
+      number = n;
+      offset = 0;
+      version = 0;
+      length = 0;
+      start = 0;
+      crc32 = 0;
+      crc32good = false;
+      crc8 = 0;
+      uuid = 0;
+      crc8good = false;
+      records = 0;
+      bytes = 0;
+    }
+
+-- "For 6 to 11 the header values and verdicts are reported, and the earlier records stay and are counted."
+-- "Only TBT3 has CRC8 and UUID; otherwise they are reported absent (0) .."
+abbrev pub walkedReport : List ℕ → Walked → Report
+walkedReport drom walked =
+    record {
+      number = walked .number;
+      offset = walked .offset;
+      version = versionIn drom;
+      length = lengthIn drom;
+      start = bodyStart drom;
+      crc32 = crc32In drom;
+      crc32good = crc32Right drom;
+      crc8 = cond (isTbt3 drom) (crc8In drom) 0;
+      uuid = cond (isTbt3 drom) (uuidIn drom) 0;
+      crc8good = crc8Right drom;
+      records = length (walked .records);
+      bytes = length (flatten (walked .records));
+    }
+
+-- the walk of a DROM whose header is accepted
+abbrev pub walkIn : (ℕ → ℕ) → List ℕ → Walked
+walkIn kinds drom = walkOf kinds (bodyStart drom) (drop (bodyStart drom) drom)
+
+unfoldable pub reportOf : List ℕ → List ℕ → ℕ → Report
+reportOf list drom room =
+    cond (eqb (refusalOf list drom room) 0) (walkedReport drom (walkIn (kindIn list) drom)) (refusedReport (refusalOf list drom room))
+
+-- the records that a reading writes
+unfoldable pub recordsOf : List ℕ → List ℕ → ℕ → List ℕ
+recordsOf list drom room = cond (eqb (refusalOf list drom room) 0) (flatten (walkIn (kindIn list) drom .records)) []
+
+-- the buffer: records at its front, every other byte as lent
+abbrev pub leavesOf : List ℕ → List ℕ → List ℕ → List ℕ
+leavesOf list drom buffer = onto (recordsOf list drom (length buffer)) buffer

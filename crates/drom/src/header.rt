@@ -1,0 +1,124 @@
+// The header of a DROM: its values and verdicts, and the refusals before the entries.
+ghost use mathlib.Core.Path.{_≡_};
+ghost use Prim.Native.Nat.{_≤_};
+ghost use mathlib.Core.Bool.{cond};
+ghost use lib.Dec.{eqb};
+ghost use lib.ListN.{length};
+ghost use Rattle.drom.specs.Numbers.{firstOf};
+ghost use Rattle.drom.specs.Header.{crc8In, uuidIn, crc32In, lengthIn, isTbt3, bodyStart, crc8Right, crc32Right, headerTests, headerRefusal};
+ghost use Rattle.drom.specs.Report.{refusalOf};
+
+pub(crate) fn stated_length(drom: &[u8]) -> usize
+    requires { ⌜ 16 ≤ length (now drom) ⌝ }
+    ensures { λ r. ⌜ r ≡ lengthIn (now (drom .entry)) ⌝ }
+{
+    (bits::le16(drom[14], drom[15]) % 4096) as usize
+}
+
+pub(crate) fn is_tbt3(drom: &[u8]) -> bool
+    requires { ⌜ 16 ≤ length (now drom) ⌝ }
+    ensures { λ r. ⌜ r ≡ isTbt3 (now (drom .entry)) ⌝ }
+{
+    drom[13] < 3
+}
+
+pub(crate) fn body_start(drom: &[u8]) -> usize
+    requires { ⌜ 16 ≤ length (now drom) ⌝ }
+    ensures { λ r. ⌜ r ≡ bodyStart (now (drom .entry)) ⌝ }
+{
+    if is_tbt3(drom) { 22 } else { 16 }
+}
+
+// 2, then 3, or 0.
+pub(crate) fn header_refusal(drom: &[u8]) -> u8
+    requires { ⌜ 16 ≤ length (now drom) ⌝ }
+    ensures { λ r. ⌜ r ≡ firstOf (headerTests (now (drom .entry))) ⌝ }
+{
+    if stated_length(drom) + 13 != drom.len() {
+        return 2;
+    }
+    if is_tbt3(drom) {
+        if drom.len() < 22 {
+            return 3;
+        }
+        return 0;
+    }
+    0
+}
+
+pub(crate) fn is_accepted(drom: &[u8]) -> bool
+    ensures { λ r. ⌜ r ≡ eqb (headerRefusal (now (drom .entry))) 0 ⌝ }
+{
+    if drom.len() < 16 {
+        return false;
+    }
+    header_refusal(drom) == 0
+}
+
+// 5, 4, 1, then the header's own, or 0.
+pub(crate) fn refusal(list: &[u8], drom: &[u8], room: usize) -> u8
+    ensures { λ r. ⌜ r ≡ refusalOf (now (list .entry)) (now (drom .entry)) room ⌝ }
+{
+    if list.len() % 2 == 1 {
+        return 5;
+    }
+    if room < 16368 {
+        return 4;
+    }
+    if drom.len() < 16 {
+        return 1;
+    }
+    header_refusal(drom)
+}
+
+pub(crate) fn stored_crc32(drom: &[u8]) -> u32
+    requires { ⌜ 16 ≤ length (now drom) ⌝ }
+    ensures { λ r. ⌜ r ≡ crc32In (now (drom .entry)) ⌝ }
+{
+    bits::le32(drom[9], drom[10], drom[11], drom[12])
+}
+
+pub(crate) fn is_crc32_valid(drom: &[u8]) -> bool
+    requires { ⌜ 16 ≤ length (now drom) ⌝ }
+    ensures { λ r. ⌜ r ≡ crc32Right (now (drom .entry)) ⌝ }
+{
+    util::crc32(&drom[13..]) == stored_crc32(drom)
+}
+
+// CRC8 and UUID, which only TBT3 has.
+pub(crate) fn stored_crc8(drom: &[u8]) -> u8
+    requires { ⌜ 16 ≤ length (now drom) ⌝ }
+    ensures { λ r. ⌜ r ≡ cond (isTbt3 (now (drom .entry))) (crc8In (now (drom .entry))) 0 ⌝ }
+{
+    if is_tbt3(drom) { drom[0] } else { 0 }
+}
+
+pub(crate) fn stored_uuid(drom: &[u8]) -> u64
+    requires { ⌜ 16 ≤ length (now drom) ⌝ }
+    ensures { λ r. ⌜ r ≡ cond (isTbt3 (now (drom .entry))) (uuidIn (now (drom .entry))) 0 ⌝ }
+{
+    if is_tbt3(drom) {
+        bits::le64(
+            drom[1],
+            drom[2],
+            drom[3],
+            drom[4],
+            drom[5],
+            drom[6],
+            drom[7],
+            drom[8],
+        )
+    } else {
+        0
+    }
+}
+
+pub(crate) fn is_crc8_valid(drom: &[u8]) -> bool
+    requires { ⌜ 16 ≤ length (now drom) ⌝ }
+    ensures { λ r. ⌜ r ≡ crc8Right (now (drom .entry)) ⌝ }
+{
+    if is_tbt3(drom) {
+        return util::crc8(&drom[1..9]) == drom[0];
+    }
+    false
+}

@@ -1,0 +1,12 @@
+// A DROM that is lent whole: its report, its records, and parts of its own bytes.
+mod header;
+pub mod parts;
+pub mod reader;
+mod walk;
+
+pub use parts::body;
+pub use parts::bytes;
+pub use parts::head;
+pub use parts::nth_entry;
+pub use reader::Report;
+pub use reader::read;

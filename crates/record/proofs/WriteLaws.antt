@@ -1,0 +1,51 @@
+-- What `write_entry` promises to a caller that has room: "no room" never comes, and what was written is the record.
+-- Assumes nothing.
+use mathlib.Core.Path.{_≡_, refl}
+use mathlib.Core.List.{List}
+use Prim.Native.Nat.{ℕ, _*_, _/_, _≤_}
+use native.Mathlib.Omega.{arith}
+use borrow.Author.Tests.{le-ltb}
+use lib.ListN.{length}
+use Rattle.bits.specs.Front.{onto, Wrote}
+use Rattle.entry.specs.declared.parse.DromEntry.{DromEntry}
+use Rattle.entry.specs.declared.parse.Decoded.{Decoded}
+use Rattle.entry.specs.declared.parse.Decoded.the-variants.{Is, Refused}
+use Rattle.entry.specs.Decode.{decodeOf}
+use Rattle.record.specs.Record.{recordOf}
+use Rattle.record.specs.Write.{recordBytes, answerOf, writeAnswer, writeLeaves}
+use Rattle.record.specs.declared.write.Written.the-variants as written
+use Rattle.record.proofs.Known.{decode-row}
+use Rattle.record.proofs.Lengths.{record-room}
+
+module _ (bs : List ℕ) (kind offset : ℕ) where
+  pub room-answer : (room : ℕ) → 4 * length bs ≤ room → writeAnswer bs kind offset room ≡ answerOf offset bs (decodeOf kind bs)
+  unfolding writeAnswer
+  room-answer room h = rw (le-ltb (room / 4) (length bs) (omega arith))
+
+  pub room-leaves : (buffer : List ℕ) → 4 * length bs ≤ length buffer → writeLeaves bs kind offset buffer ≡ onto (recordBytes offset bs (decodeOf kind bs)) buffer
+  unfolding writeLeaves
+  room-leaves buffer h = rw (le-ltb (length buffer / 4) (length bs) (omega arith))
+
+  -- "No entry's record exceeds 4 times L bytes"
+  pub written-room : (e : DromEntry) → decodeOf kind bs ≡ Is e → length (recordOf offset bs e) ≤ 4 * length bs
+  written-room e d = record-room bs offset e (decode-row kind bs e d)
+
+-- ---- what an answer tells of the entry
+
+-- a record of n bytes: the entry is decoded, and they are its record's
+pub record Recorded (offset : ℕ) (bs : List ℕ) (d : Decoded) (n : ℕ) : Type 0 where
+  pub entry : DromEntry
+  pub is : d ≡ Is entry
+  pub size : n ≡ length (recordOf offset bs entry)
+
+pub answer-record : (offset : ℕ) (bs : List ℕ) (d : Decoded) (n : ℕ) → answerOf offset bs d ≡ written.Record n → Recorded offset bs d n
+answer-record offset bs (Is e) n a = record { entry = e; is = refl; size = cc }
+answer-record offset bs (Refused m) n a = absurd (let z : _≡_ {A = ℕ} 0 1 = cc in omega arith)
+
+pub answer-refused : (offset : ℕ) (bs : List ℕ) (d : Decoded) (n : ℕ) → answerOf offset bs d ≡ written.Refused n → d ≡ Refused n
+answer-refused offset bs (Is e) n a = absurd (let z : _≡_ {A = ℕ} 0 1 = cc in omega arith)
+answer-refused offset bs (Refused m) n a = cc
+
+pub answer-room : (offset : ℕ) (bs : List ℕ) (d : Decoded) → answerOf offset bs d ≡ written.NoRoom → ⊥
+answer-room offset bs (Is e) a = let z : _≡_ {A = ℕ} 0 1 = cc in omega arith
+answer-room offset bs (Refused m) a = let z : _≡_ {A = ℕ} 0 1 = cc in omega arith

@@ -5,7 +5,7 @@ use mathlib.Core.Bool.{Bool, true, false, cond, not, _&&_}
 use mathlib.Core.List.{List}
 use Prim.Native.Nat.{ℕ, _+_, _%_, _≤_}
 use native.Mathlib.Omega.{arith}
-use borrow.Author.Tests.{ltb-true, ltb-false, eqb-true}
+use borrow.Author.Tests.{ltb-true, ltb-false, eqb-true, le-ltb, eq-eqb}
 use lib.Dec.{ltb, eqb}
 use lib.ListN.{length}
 use Rattle.drom.specs.Header.{versionIn, lengthIn, isTbt3, bodyStart, headerRefusal}
@@ -42,3 +42,19 @@ opened list drom room = go (eqb (length list % 2) 1) (ltb room 16368) refl
     go true small e h = absurd (omega arith)
     go false true e h = absurd (omega arith)
     go false false e h = (ltb-false room 16368 e, h)
+
+-- "4,108 bytes with length 4,095 passes the header", whatever the other bytes are
+pub longest-passes : (drom : List ℕ) → length drom ≡ 4108 → lengthIn drom ≡ 4095 → headerRefusal drom ≡ 0
+longest-passes drom n l =
+    let long : 16 ≤ length drom = omega arith in
+    let same : lengthIn drom + 13 ≡ length drom = omega arith in
+    let whole : 22 ≤ length drom = omega arith in
+    rw (le-ltb (length drom) 16 long, eq-eqb (lengthIn drom + 13) (length drom) same, le-ltb (length drom) 22 whole) (neither (isTbt3 drom))
+  where
+    neither : (t : Bool) → _≡_ {A = ℕ} (cond (t && false) 3 0) 0
+    neither true = refl
+    neither false = refl
+
+-- "4,109 never does"
+pub longer-never : (drom : List ℕ) → 4109 ≤ length drom → headerRefusal drom ≡ 0 → ⊥
+longer-never drom n h = omega (arith, sizes drom h .most)

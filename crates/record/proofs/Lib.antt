@@ -4,3 +4,4 @@ pub mod TextLaws
 pub mod Known
 pub mod Lengths
 pub mod WriteLaws
+pub mod StepLaws

@@ -1,3 +1,4 @@
 pub mod Record
 pub mod Write
 pub mod Lengths
+pub mod Step

@@ -1,5 +1,9 @@
-// The record of an entry, written to the front of a lent buffer.
+// The record of an entry, written to the front of a lent buffer; and the way from one written record to the next.
+pub mod step;
 pub mod write;
 
+pub use step::Head;
+pub use step::head_of;
+pub use step::record_length;
 pub use write::Written;
 pub use write::write_entry;

@@ -8,8 +8,8 @@ use lib.ListN.{length, take, drop, length-take, length-drop}
 use Rattle.record.specs.Step.{recordSize}
 use Rattle.record.proofs.StepLaws.{size-within}
 use borrow.Author.Needs.{needs}
-use Rattle.dromdump.proofs.print_records.Statement.{statement}
-use Rattle.dromdump.proofs.print_records.Tie as tie
+use Rattle.dump.proofs.print_records.Statement.{statement}
+use Rattle.dump.proofs.print_records.Tie as tie
 
 -- a record does not reach beyond the bytes
 reaches : (bytes : List ℕ) (at n : ℕ) → at ≤ length bytes → n ≡ recordSize (take (length bytes - at) (drop at bytes)) → at + n ≤ length bytes

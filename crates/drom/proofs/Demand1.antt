@@ -4,16 +4,14 @@
 -- Assumes nothing.
 use mathlib.Core.Path.{_≡_, refl, sym, ap, _∙_}
 use mathlib.Core.Bool.{Bool, true, false, cond}
-use mathlib.Core.List.{List, [], _∷_, _++_, flatten}
+use mathlib.Core.List.{List, [], _∷_, flatten}
 use Prim.Native.Nat.{ℕ, zero, suc, _+_, _-_, _*_, _<_, _≤_}
 use native.Mathlib.Nat.{le-refl, not-suc-le-zero}
 use native.Mathlib.Omega.{arith}
-use borrow.Author.Tests.{eqb-true, eqb-false}
+use borrow.Author.Tests.{eqb-true}
 use lib.Dec.{eqb}
 use lib.ListN.{length, getD, take, drop, length-append, length-drop}
 use lib.Seq.{take-append-seam, getD-append-add, getD-drop, length-take-le}
-use Rattle.bits.specs.Front.{onto}
-use Rattle.entry.specs.declared.parse.DromEntry.{DromEntry}
 use Rattle.entry.specs.declared.parse.Decoded.{Decoded}
 use Rattle.entry.specs.declared.parse.Decoded.the-variants.{Is, Refused}
 use Rattle.entry.specs.Adapters.{kindIn}
@@ -21,7 +19,7 @@ use Rattle.entry.specs.Decode.{numberOf}
 use Rattle.record.specs.Record.{recordOf}
 use Rattle.record.proofs.WriteLaws.{written-room}
 use Rattle.drom.specs.Header.{bodyStart}
-use Rattle.drom.specs.Walk.{Walked, frontOf, andThen, walkOf}
+use Rattle.drom.specs.Walk.{frontOf, andThen, walkOf}
 use Rattle.drom.specs.Report.{refusalOf, walkIn, reportOf, recordsOf, leavesOf}
 use Rattle.drom.proofs.HeaderLaws.{sizes, opened}
 use Rattle.drom.proofs.ReportLaws.{report-walked, leaves-refused}

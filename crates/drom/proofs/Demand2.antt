@@ -2,22 +2,21 @@
 -- (`accepted-cut`, `cut-accepted`); the cut is then unique (`cut-unique`), and the records are those of its pieces in order (`cut-records`).
 -- A refused walk stops at the end of the longest beginning that can be cut, for the reason that stands there (`stops-longest`).
 -- Assumes nothing.
-use mathlib.Core.Path.{_≡_, refl, sym, ap, ap₂, subst, _∙_}
+use mathlib.Core.Path.{_≡_, refl, sym, ap, subst, _∙_}
 use mathlib.Core.Bool.{Bool, true, false, cond}
 use mathlib.Core.List.{List, [], _∷_, _++_, append-assoc, append-nil, flatten}
 use mathlib.Core.Logic.{_⊎_, inl, inr, _↔_}
 use Prim.Native.Nat.{ℕ, zero, suc, _+_, _-_, _<_, _≤_}
-use native.Mathlib.Nat.{le-refl, not-suc-le-zero, le-of-suc-le-suc}
+use native.Mathlib.Nat.{le-refl, not-suc-le-zero}
 use native.Mathlib.Omega.{arith}
-use borrow.Author.Tests.{eqb-true, eqb-false, ltb-true, ltb-false, eq-eqb, ne-eqb, lt-ltb, le-ltb}
+use borrow.Author.Tests.{ne-eqb, le-ltb}
 use lib.Dec.{ltb, eqb}
-use lib.ListN.{length, take, drop, length-drop, length-take, length-append, take-append-drop}
+use lib.ListN.{length, take, drop, length-drop, length-append, take-append-drop}
 use lib.Seq.{take-append-seam, drop-append-seam, length-take-le}
 use Rattle.entry.specs.declared.parse.DromEntry.{DromEntry}
 use Rattle.entry.specs.declared.parse.Decoded.{Decoded}
 use Rattle.entry.specs.declared.parse.Decoded.the-variants.{Is, Refused}
-use Rattle.entry.specs.Decode.{numberOf, decodeOf}
-use Rattle.entry.specs.Fit.{Fit}
+use Rattle.entry.specs.Decode.{numberOf}
 use Rattle.entry.proofs.FitLaws.{fit-decodes, decoded-fit, refused-number}
 use Rattle.drom.specs.Walk.{Walked, entryOf, frontOf, end, andThen, walkOf}
 use Rattle.drom.specs.Cut.{Entry, Cut, none, next, recordsAt}

@@ -5,10 +5,10 @@ use mathlib.Core.Bool.{Bool, true, false, cond, not, _&&_}
 use mathlib.Core.List.{List}
 use Prim.Native.Nat.{ℕ, _+_, _%_, _≤_}
 use native.Mathlib.Omega.{arith}
-use borrow.Author.Tests.{ltb-true, ltb-false, eqb-true, le-ltb, eq-eqb}
+use borrow.Author.Tests.{ltb-false, eqb-true, le-ltb, eq-eqb}
 use lib.Dec.{ltb, eqb}
 use lib.ListN.{length}
-use Rattle.drom.specs.Header.{versionIn, lengthIn, isTbt3, bodyStart, headerRefusal}
+use Rattle.drom.specs.Header.{lengthIn, isTbt3, bodyStart, headerRefusal}
 use Rattle.drom.specs.Report.{refusalOf}
 
 pub record Sizes (drom : List ℕ) : Type 0 where

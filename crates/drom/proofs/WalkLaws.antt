@@ -1,13 +1,13 @@
 -- The equations of a walk, without its turns: over nothing, and over bytes with an entry or a refusal at their front.
 -- Assumes nothing.
-use mathlib.Core.Path.{_≡_, refl, sym, ap, ap₂, _∙_}
+use mathlib.Core.Path.{_≡_, refl, sym, ap, _∙_}
 use mathlib.Core.Bool.{Bool, true, false, cond}
-use mathlib.Core.List.{List, [], _∷_, _++_}
+use mathlib.Core.List.{List, [], _∷_}
 use mathlib.Core.Logic.{_⊎_, inl, inr, ⊎-elim}
 use Prim.Native.Nat.{ℕ, zero, suc, _+_, _-_, _<_, _≤_}
-use native.Mathlib.Nat.{le-refl, not-suc-le-zero, le-of-suc-le-suc}
+use native.Mathlib.Nat.{le-refl, not-suc-le-zero}
 use native.Mathlib.Omega.{arith}
-use borrow.Author.Tests.{eqb-true, eqb-false, ltb-true, ltb-false, eq-eqb, ne-eqb, lt-ltb, le-ltb}
+use borrow.Author.Tests.{eqb-false, ltb-false, eq-eqb, ne-eqb, lt-ltb, le-ltb}
 use lib.Dec.{ltb, eqb}
 use lib.ListN.{length, take, drop, getD, length-drop, drop-of-length-le}
 use lib.Seq.{drop-cons, drop-drop}

@@ -1,23 +1,21 @@
 -- A turn of the walk's loop: the records so far at the front of the buffer, and the walk that is left.
 -- Assumes nothing.
-use mathlib.Core.Path.{_≡_, refl, sym, ap, ap₂, subst, _∙_}
+use mathlib.Core.Path.{_≡_, refl, sym, ap, _∙_}
 use mathlib.Core.List.{List, [], _∷_, _++_, append-assoc, append-nil, flatten}
-use Prim.Native.Nat.{ℕ, zero, suc, _+_, _-_, _*_, _<_, _≤_}
+use Prim.Native.Nat.{ℕ, _+_, _-_, _*_, _<_, _≤_}
 use native.Mathlib.Omega.{arith}
 use lib.ListN.{length, getD, take, drop, length-append, length-drop, length-take}
 use lib.Seq.{length-take-le}
 use Rattle.bits.specs.Front.{onto, Wrote}
 use Rattle.bits.proofs.LawsFront.{wrote-none, follows}
-use Rattle.entry.specs.declared.parse.DromEntry.{DromEntry}
 use Rattle.entry.specs.declared.parse.Decoded.{Decoded}
 use Rattle.entry.specs.declared.parse.Decoded.the-variants.{Is, Refused}
 use Rattle.entry.specs.Decode.{numberOf}
 use Rattle.record.specs.Record.{recordOf}
 use Rattle.record.specs.Write.{recordBytes, answerOf}
-use Rattle.record.specs.declared.write.Written.{Written}
 use Rattle.record.specs.declared.write.Written.the-variants as written
-use Rattle.record.proofs.WriteLaws.{written-room, Recorded, answer-record, answer-refused, answer-room}
-use Rattle.drom.specs.Walk.{Walked, entryOf, pieceAt, frontAt, end, andThen, walkOf}
+use Rattle.record.proofs.WriteLaws.{written-room, answer-record, answer-refused, answer-room}
+use Rattle.drom.specs.Walk.{Walked, pieceAt, frontAt, andThen, walkOf}
 use Rattle.drom.specs.Walking.{Tells}
 use Rattle.drom.proofs.WalkLaws.{front-inside, walk-at, walk-past}
 use Rattle.drom.proofs.Joined.{flatten-snoc}

@@ -1,8 +1,8 @@
 -- Document 01, "Numbers given back": the report of a whole DROM, for a list, the DROM's bytes and the size of the record buffer lent;
 -- and what the buffer is then.
 -- Assumes nothing.
-use mathlib.Core.Bool.{true, false, cond}
-use mathlib.Core.List.{List, [], _∷_, _++_, flatten}
+use mathlib.Core.Bool.{false, cond}
+use mathlib.Core.List.{List, [], _++_, flatten}
 use Prim.Native.Nat.{ℕ}
 use lib.Dec.{eqb}
 use lib.ListN.{length, drop}

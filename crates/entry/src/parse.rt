@@ -3,7 +3,7 @@ ghost use mathlib.Core.Path.{_≡_};
 ghost use mathlib.Core.Bool.{cond};
 ghost use mathlib.Core.List.{[]};
 ghost use Prim.Native.Nat.{_≤_, _<_, _%_};
-ghost use lib.ListN.{length, drop};
+ghost use lib.ListN.{length};
 ghost use Rattle.bits.specs.Bits.{bits};
 ghost use Rattle.entry.specs.Names.{beforeZero};
 ghost use Rattle.entry.specs.Rows.{least, genericRow, adapterRow, displayPort, lane, pcieUp, pcieDown, asciiVendor, asciiModel, serial, utf16Vendor, utf16Model, dptx};

@@ -6,7 +6,7 @@ use Prim.Native.Nat.{ℕ, _*_, _/_, _≤_}
 use native.Mathlib.Omega.{arith}
 use borrow.Author.Tests.{le-ltb}
 use lib.ListN.{length}
-use Rattle.bits.specs.Front.{onto, Wrote}
+use Rattle.bits.specs.Front.{onto}
 use Rattle.entry.specs.declared.parse.DromEntry.{DromEntry}
 use Rattle.entry.specs.declared.parse.Decoded.{Decoded}
 use Rattle.entry.specs.declared.parse.Decoded.the-variants.{Is, Refused}

@@ -1,7 +1,6 @@
 // The way from one record to the next: what the head of a written record says, and how many bytes the record has.
 ghost use mathlib.Core.Path.{_≡_};
 ghost use Prim.Native.Nat.{_-_, _≤_, _<_};
-ghost use lib.ListN.{length};
 ghost use Rattle.bits.specs.Bits.{byte};
 ghost use Rattle.record.specs.Step.{headLength, headIn, taggedSize, recordSize};
 

@@ -1,18 +1,17 @@
 -- The laws of the two checksums: in pieces as in one; a single-bit step is linear; a byte by CRC32_TABLE; eight bytes by CRC32_ROWS.
 -- Assumes nothing.
 use mathlib.Core.Path.{_≡_, refl, sym, ap, ap₂, _∙_}
-use mathlib.Core.Bool.{Bool, true, false, cond}
+use mathlib.Core.Bool.{cond}
 use mathlib.Core.List.{List, [], _∷_, _++_}
 use Prim.Native.Nat.{ℕ, zero, suc, _+_, _-_, _*_, _/_, _%_, _^_, _<_, _≤_}
 use native.Mathlib.Nat.{le-of-eq, mod-lt, mod-eq-of-lt, div-add-mod'}
 use native.Mathlib.Omega.{arith}
 use native.Mathlib.Numerals.{add-one}
-use borrow.Author.Tests.{eq-eqb, ne-eqb}
 use lib.Dec.{T, eqb, lit<}
 use lib.ListN.{length, getD, take, drop, drop-of-length-le, length-drop, take-append-drop}
 use lib.Seq.{drop-cons, drop-drop, take-all}
 use lib.Bits.{bitXor, differ, xor-comm, xor-zero-r, xor-shifted, xor-shr, xor-mod, shifted-half, shifted-even}
-use Rattle.util.specs.Crc.{times, over, bitOf8, bitOf32, byteOf32}
+use Rattle.util.specs.Crc.{times, over, bitOf32, byteOf32}
 use Rattle.util.specs.Tables.{Stepped, Rowed}
 use Rattle.util.proofs.Table.{every, ruled}
 use Rattle.util.proofs.Xor.{xor-assoc, xor-half, xor-odd, xor-four}

@@ -7,12 +7,12 @@ use Prim.Native.Nat.{ℕ, zero, suc, _+_, _-_, _*_, _/_, _<_, _≤_}
 use native.Mathlib.Nat.{not-suc-le-zero}
 use native.Mathlib.Numerals.{add-one}
 use native.Mathlib.Omega.{arith}
-use borrow.Author.Tests.{lt-leb, le-leb, lt-ltb, le-ltb}
+use borrow.Author.Tests.{lt-leb, le-leb}
 use lib.ListN.{length, getD, take, drop, set, length-set, length-append, take-append-drop}
-use lib.Seq.{length-take-le, take-suc-set, drop-set-lt, drop-drop, drop-length}
+use lib.Seq.{take-suc-set, drop-set-lt, drop-drop}
 use Rattle.bits.specs.Front.{onto}
 use Rattle.util.specs.Range.{range}
-use Rattle.util.specs.Utf16.{units, Char, scalar, unpaired, isPair, alone, decode, kept, keptOf, textOf}
+use Rattle.util.specs.Utf16.{units, scalar, isPair, alone, decode, kept, keptOf, textOf}
 use Rattle.util.specs.Shown.{shown, Shows}
 use Rattle.util.proofs.Units.{units-cons, units-none}
 

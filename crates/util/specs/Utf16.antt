@@ -1,10 +1,10 @@
 -- Document 01's text rule for UTF-16, over the Unicode Standard's decoding (D91): code units become scalar values,
 -- or unpaired surrogates, first; what is kept of them comes second.
 -- Assumes nothing.
-use mathlib.Core.Bool.{Bool, true, false, cond, _&&_}
+use mathlib.Core.Bool.{Bool, cond, _&&_}
 use mathlib.Core.List.{List, [], _∷_, _++_}
 use Prim.Native.Nat.{ℕ, _+_, _-_, _*_, _/_, _%_}
-use lib.Dec.{leb, ltb, eqb}
+use lib.Dec.{ltb, eqb}
 use lib.ListN.{length}
 use Rattle.bits.specs.Front.{onto}
 use Rattle.util.specs.Range.{range}

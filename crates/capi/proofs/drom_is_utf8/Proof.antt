@@ -1,9 +1,6 @@
 use borrow.Author.Needs.{needs}
 use Rattle.capi.proofs.drom_is_utf8.Statement.{statement}
 use Rattle.capi.proofs.drom_is_utf8.Tie as tie
-use Rattle.capi.proofs.drom_is_utf8.Reads as reads
-use Rattle.capi.proofs.drom_is_utf8.Lts as lts
-use Rattle.util.proofs.is_utf8.Reads as is-utf8-reads
 
 is-utf8-requires : tie.Need-is-utf8-requires
 is-utf8-requires c κs = search needs

@@ -2,9 +2,6 @@ use mathlib.Core.Path.{sym, _∙_}
 use borrow.Author.Needs.{needs}
 use Rattle.capi.proofs.drom_utf16_ascii.Statement.{statement}
 use Rattle.capi.proofs.drom_utf16_ascii.Tie as tie
-use Rattle.capi.proofs.drom_utf16_ascii.Reads as reads
-use Rattle.capi.proofs.drom_utf16_ascii.Lts as lts
-use Rattle.util.proofs.bytes_to_utf16_ascii.Reads as bytes-to-utf16-ascii-reads
 
 bytes-to-utf16-ascii-requires : tie.Need-bytes-to-utf16-ascii-requires
 bytes-to-utf16-ascii-requires c κs = search needs

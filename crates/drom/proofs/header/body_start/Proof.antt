@@ -1,9 +1,6 @@
 use borrow.Author.Needs.{needs}
 use Rattle.drom.proofs.header.body_start.Statement.{statement}
 use Rattle.drom.proofs.header.body_start.Tie as tie
-use Rattle.drom.proofs.header.body_start.Reads as reads
-use Rattle.drom.proofs.header.body_start.Lts as lts
-use Rattle.drom.proofs.header.is_tbt3.Reads as is-tbt3-reads
 
 is-tbt3-requires : tie.Need-is-tbt3-requires
 is-tbt3-requires c κs = search needs

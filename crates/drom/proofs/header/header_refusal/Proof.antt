@@ -2,10 +2,6 @@ use borrow.Author.Tests.{lt-ltb, le-ltb, eq-eqb, ne-eqb}
 use borrow.Author.Needs.{needs}
 use Rattle.drom.proofs.header.header_refusal.Statement.{statement}
 use Rattle.drom.proofs.header.header_refusal.Tie as tie
-use Rattle.drom.proofs.header.header_refusal.Reads as reads
-use Rattle.drom.proofs.header.header_refusal.Lts as lts
-use Rattle.drom.proofs.header.is_tbt3.Reads as is-tbt3-reads
-use Rattle.drom.proofs.header.stated_length.Reads as stated-length-reads
 
 stated-length-requires : tie.Need-stated-length-requires
 stated-length-requires c κs = search needs

@@ -1,13 +1,10 @@
-use borrow.Author.Tests.{lt-ltb, le-ltb, eq-eqb, ne-eqb}
+use borrow.Author.Tests.{lt-ltb, le-ltb}
 use mathlib.Core.Path.{ap}
 use Prim.Native.Nat.{ℕ}
 use lib.Dec.{eqb}
 use borrow.Author.Needs.{needs}
 use Rattle.drom.proofs.header.is_accepted.Statement.{statement}
 use Rattle.drom.proofs.header.is_accepted.Tie as tie
-use Rattle.drom.proofs.header.is_accepted.Reads as reads
-use Rattle.drom.proofs.header.is_accepted.Lts as lts
-use Rattle.drom.proofs.header.header_refusal.Reads as header-refusal-reads
 
 returns : tie.Need-returns
 returns c = rw (lt-ltb _ _ (c .if1 .taken))

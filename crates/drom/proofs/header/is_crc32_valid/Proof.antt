@@ -8,10 +8,6 @@ use Rattle.drom.specs.Header.{crc32Right}
 use borrow.Author.Needs.{needs}
 use Rattle.drom.proofs.header.is_crc32_valid.Statement.{statement}
 use Rattle.drom.proofs.header.is_crc32_valid.Tie as tie
-use Rattle.drom.proofs.header.is_crc32_valid.Reads as reads
-use Rattle.drom.proofs.header.is_crc32_valid.Lts as lts
-use Rattle.drom.proofs.header.stored_crc32.Reads as stored-crc32-reads
-use Rattle.util.proofs.crc32.Reads as crc32-reads
 
 sub-crc32 : tie.Need-sub-crc32
 sub-crc32 c = search needs

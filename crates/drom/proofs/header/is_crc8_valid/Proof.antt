@@ -7,10 +7,6 @@ use Rattle.drom.specs.Header.{crc8Right}
 use borrow.Author.Needs.{needs}
 use Rattle.drom.proofs.header.is_crc8_valid.Statement.{statement}
 use Rattle.drom.proofs.header.is_crc8_valid.Tie as tie
-use Rattle.drom.proofs.header.is_crc8_valid.Reads as reads
-use Rattle.drom.proofs.header.is_crc8_valid.Lts as lts
-use Rattle.drom.proofs.header.is_tbt3.Reads as is-tbt3-reads
-use Rattle.util.proofs.crc8.Reads as crc8-reads
 
 is-tbt3-requires : tie.Need-is-tbt3-requires
 is-tbt3-requires c κs = search needs

@@ -2,9 +2,6 @@ use borrow.Author.Tests.{lt-ltb, le-ltb, eq-eqb, ne-eqb}
 use borrow.Author.Needs.{needs}
 use Rattle.drom.proofs.header.refusal.Statement.{statement}
 use Rattle.drom.proofs.header.refusal.Tie as tie
-use Rattle.drom.proofs.header.refusal.Reads as reads
-use Rattle.drom.proofs.header.refusal.Lts as lts
-use Rattle.drom.proofs.header.header_refusal.Reads as header-refusal-reads
 
 returns : tie.Need-returns
 returns c = rw (eq-eqb _ _ (c .if1 .taken))

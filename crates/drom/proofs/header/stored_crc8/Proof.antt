@@ -1,9 +1,6 @@
 use borrow.Author.Needs.{needs}
 use Rattle.drom.proofs.header.stored_crc8.Statement.{statement}
 use Rattle.drom.proofs.header.stored_crc8.Tie as tie
-use Rattle.drom.proofs.header.stored_crc8.Reads as reads
-use Rattle.drom.proofs.header.stored_crc8.Lts as lts
-use Rattle.drom.proofs.header.is_tbt3.Reads as is-tbt3-reads
 
 is-tbt3-requires : tie.Need-is-tbt3-requires
 is-tbt3-requires c κs = search needs

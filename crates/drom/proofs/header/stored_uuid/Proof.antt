@@ -1,10 +1,6 @@
 use borrow.Author.Needs.{needs}
 use Rattle.drom.proofs.header.stored_uuid.Statement.{statement}
 use Rattle.drom.proofs.header.stored_uuid.Tie as tie
-use Rattle.drom.proofs.header.stored_uuid.Reads as reads
-use Rattle.drom.proofs.header.stored_uuid.Lts as lts
-use Rattle.bits.proofs.le64.Reads as le64-reads
-use Rattle.drom.proofs.header.is_tbt3.Reads as is-tbt3-reads
 
 is-tbt3-requires : tie.Need-is-tbt3-requires
 is-tbt3-requires c κs = search needs

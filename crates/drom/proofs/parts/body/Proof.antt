@@ -10,11 +10,6 @@ use borrow.Rule.Slice.PartAt.{part-to-end}
 use borrow.Author.Needs.{needs}
 use Rattle.drom.proofs.parts.body.Statement.{statement}
 use Rattle.drom.proofs.parts.body.Tie as tie
-use Rattle.drom.proofs.parts.body.Reads as reads
-use Rattle.drom.proofs.parts.body.Lts as lts
-use Rattle.drom.proofs.header.body_start.Reads as body-start-reads
-use Rattle.drom.proofs.header.is_accepted.Reads as is-accepted-reads
-use Rattle.drom.proofs.parts.none.Reads as none-reads
 
 is-accepted-requires : tie.Need-is-accepted-requires
 is-accepted-requires c κs = search needs

@@ -1,17 +1,8 @@
 use borrow.Rule.Slice.PartAt.{part-to-end}
-use mathlib.Core.Path.{sym, ap, _∙_}
-use native.Mathlib.Omega.{arith}
-use borrow.Author.Tests.{eqb-true}
 use denote.Ref.{now}
-use Rattle.drom.specs.Header.{headerRefusal}
-use Rattle.drom.proofs.HeaderLaws.{sizes}
 use borrow.Author.Needs.{needs}
 use Rattle.drom.proofs.parts.bytes.Statement.{statement}
 use Rattle.drom.proofs.parts.bytes.Tie as tie
-use Rattle.drom.proofs.parts.bytes.Reads as reads
-use Rattle.drom.proofs.parts.bytes.Lts as lts
-use Rattle.drom.proofs.header.is_accepted.Reads as is-accepted-reads
-use Rattle.drom.proofs.parts.none.Reads as none-reads
 
 is-accepted-requires : tie.Need-is-accepted-requires
 is-accepted-requires c κs = search needs

@@ -3,16 +3,12 @@ use Prim.Native.Nat.{ℕ, _+_, _-_, _≤_, _<_}
 use native.Mathlib.Omega.{arith}
 use denote.Ref.{now}
 use lib.ListN.{length, getD, take, drop, length-drop}
-use Rattle.drom.specs.Walk.{entryOf}
+use Rattle.drom.specs.Walk.{entryOf, frontAt}
 use Rattle.entry.specs.Adapters.{kindIn}
 use Rattle.drom.proofs.WalkLaws.{front-zero, front-past, front-whole}
 use borrow.Author.Needs.{needs}
 use Rattle.drom.proofs.parts.entry_end.Statement.{statement}
 use Rattle.drom.proofs.parts.entry_end.Tie as tie
-use Rattle.drom.proofs.parts.entry_end.Reads as reads
-use Rattle.drom.proofs.parts.entry_end.Lts as lts
-use Rattle.drom.proofs.walk.listed_kind.Reads as listed-kind-reads
-use Rattle.entry.proofs.decode.Reads as decode-reads
 
 shared-slice-read-n : tie.Need-shared-slice-read-n
 shared-slice-read-n c = search needs
@@ -62,35 +58,25 @@ enum-told c = search needs
 enum-told-2 : tie.Need-enum-told-2
 enum-told-2 c = search needs
 
-returns-3 : tie.Need-returns-3
-returns-3 c =
-    let drom = now (c .before .before .before .before .before .before .before .before .before .before .args .drom) in
-    let kinds = kindIn (now (c .before .before .before .before .before .before .before .before .before .before .args .list)) in
-    let at = c .before .before .before .before .before .before .before .before .before .before .args .at in
+-- what stands at the offset is what the bytes there decode to
+there : (c : tie.After-decode)
+    → frontAt (kindIn (now (c .before .before .before .before .before .before .before .before .args .list))) (now (c .before .before .before .before .before .before .before .before .args .drom)) (c .before .before .before .before .before .before .before .before .args .at) ≡ c .decode .result
+there c =
+    let drom = now (c .before .before .before .before .before .before .before .before .args .drom) in
+    let kinds = kindIn (now (c .before .before .before .before .before .before .before .before .args .list)) in
+    let at = c .before .before .before .before .before .before .before .before .args .at in
     let whole : getD drom at 0 ≤ length (drop at drom) = omega (arith, length-drop at drom) in
     let cut : at + getD drom at 0 - at ≡ getD drom at 0 = omega arith in
-    let there =
-    ap (λ (n : ℕ). entryOf kinds (take n (drop at drom))) (sym cut)
-    ∙ sym (c .before .before .before .listed-kind .ensures)
-    ∙ sym (c .before .before .decode .ensures)
-    ∙ c .enum-told .given .1
-    in
-    rw (front-whole kinds (getD drom at 0) (drop at drom) (c .before .before .before .before .before .before .if1 .left) whole, there)
+    front-whole kinds (getD drom at 0) (drop at drom) (c .before .before .before .before .if1 .left) whole
+    ∙ ap (λ (n : ℕ). entryOf kinds (take n (drop at drom))) (sym cut)
+    ∙ sym (c .before .listed-kind .ensures)
+    ∙ sym (c .decode .ensures)
+
+returns-3 : tie.Need-returns-3
+returns-3 c = rw (there (c .before .before), c .enum-told .given .1)
 
 returns-4 : tie.Need-returns-4
-returns-4 c =
-    let drom = now (c .before .before .before .before .before .before .before .before .before .before .args .drom) in
-    let kinds = kindIn (now (c .before .before .before .before .before .before .before .before .before .before .args .list)) in
-    let at = c .before .before .before .before .before .before .before .before .before .before .args .at in
-    let whole : getD drom at 0 ≤ length (drop at drom) = omega (arith, length-drop at drom) in
-    let cut : at + getD drom at 0 - at ≡ getD drom at 0 = omega arith in
-    let there =
-    ap (λ (n : ℕ). entryOf kinds (take n (drop at drom))) (sym cut)
-    ∙ sym (c .before .before .before .listed-kind .ensures)
-    ∙ sym (c .before .before .decode .ensures)
-    ∙ c .enum-told2 .given .1
-    in
-    rw (front-whole kinds (getD drom at 0) (drop at drom) (c .before .before .before .before .before .before .if1 .left) whole, there)
+returns-4 c = rw (there (c .before .before), c .enum-told2 .given .1)
 
 pub entry-end-spec : {M : Type 1} → statement M
 entry-end-spec =

@@ -1,19 +1,15 @@
 use mathlib.Core.Path.{_≡_, refl, sym, ap, _∙_}
 use mathlib.Core.List.{List, []}
-use Prim.Native.Nat.{ℕ, _-_, _≤_, _<_}
+use Prim.Native.Nat.{ℕ, _-_, _≤_}
 use native.Mathlib.Omega.{arith}
 use denote.Ref.{now}
-use lib.ListN.{length, getD, take, drop}
+use lib.ListN.{length, getD, drop}
 use Rattle.entry.specs.Adapters.{kindIn}
 use Rattle.drom.specs.Walk.{Walked, walkOf}
-use Rattle.drom.proofs.WalkLaws.{step-none, step-on, walk-past, getD-next}
+use Rattle.drom.proofs.WalkLaws.{Passes, step-none, step-on, walk-past, getD-next}
 use borrow.Author.Needs.{needs}
 use Rattle.drom.proofs.parts.entry_from.Statement.{statement}
 use Rattle.drom.proofs.parts.entry_from.Tie as tie
-use Rattle.drom.proofs.parts.entry_from.Reads as reads
-use Rattle.drom.proofs.parts.entry_from.Lts as lts
-use Rattle.drom.proofs.parts.entry_end.Reads as entry-end-reads
-use Rattle.drom.proofs.parts.none.Reads as none-reads
 
 abbrev Inv-loop : tie.InvT-loop
 Inv-loop list drom start n at₀ left₀ at left =
@@ -39,29 +35,21 @@ returns c =
     let none-there = step-none kinds drom (l .loop .at) _ (c .before .before .before .loop-test .taken) (c .before .before .entry-end .ensures) (c .before .if1 .taken) in
     c .none .ensures ∙ sym (ap (λ (es : List (List ℕ)). getD es (l .loop .left) []) none-there) ∙ l .loop .inv .1
 
+-- ---- a turn in which an entry stands at the offset
+
+module _ (c : tie.Else1 Inv-loop μ-loop) where
+  on : Passes (kindIn (now (c .before .before .before .before .before .before .args .list))) (now (c .before .before .before .before .before .before .args .drom))
+      (c .before .before .before .loop .at) (c .before .entry-end .result) (c .before .before .loop-test .taken) (c .before .entry-end .ensures)
+  on = step-on _ _ _ _ (c .before .before .loop-test .taken) (c .before .entry-end .ensures) (c .if1 .left)
+
 sub-result : tie.Need-sub-result Inv-loop μ-loop
-sub-result c =
-    let l = c .before .before .before .before in
-    let drom = now (c .before .before .before .before .before .before .before .args .drom) in
-    let kinds = kindIn (now (c .before .before .before .before .before .before .before .args .list)) in
-    let on = step-on kinds drom (l .loop .at) _ (c .before .before .before .loop-test .taken) (c .before .before .entry-end .ensures) (c .before .if1 .left) in
-    omega (arith, on .on, on .inside)
+sub-result c = omega (arith, on (c .before) .on, on (c .before) .inside)
 
 part-result-start : tie.Need-part-result-start Inv-loop μ-loop
-part-result-start c =
-    let l = c .before .before .before .before in
-    let drom = now (c .before .before .before .before .before .before .before .args .drom) in
-    let kinds = kindIn (now (c .before .before .before .before .before .before .before .args .list)) in
-    let on = step-on kinds drom (l .loop .at) _ (c .before .before .before .loop-test .taken) (c .before .before .entry-end .ensures) (c .before .if1 .left) in
-    omega (arith, on .on, on .inside)
+part-result-start c = omega (arith, on (c .before) .on, on (c .before) .inside)
 
 part-result-end : tie.Need-part-result-end Inv-loop μ-loop
-part-result-end c =
-    let l = c .before .before .before .before in
-    let drom = now (c .before .before .before .before .before .before .before .args .drom) in
-    let kinds = kindIn (now (c .before .before .before .before .before .before .before .args .list)) in
-    let on = step-on kinds drom (l .loop .at) _ (c .before .before .before .loop-test .taken) (c .before .before .entry-end .ensures) (c .before .if1 .left) in
-    omega (arith, on .on, on .inside)
+part-result-end c = omega (arith, on (c .before) .on, on (c .before) .inside)
 
 returns-2 : tie.Need-returns-2 Inv-loop μ-loop
 returns-2 c =
@@ -75,12 +63,7 @@ sub-left : tie.Need-sub-left Inv-loop μ-loop
 sub-left c = search needs
 
 loop-less : tie.Need-loop-less Inv-loop μ-loop
-loop-less c =
-    let l = c .before .before .before .before in
-    let drom = now (c .before .before .before .before .before .before .before .args .drom) in
-    let kinds = kindIn (now (c .before .before .before .before .before .before .before .args .list)) in
-    let on = step-on kinds drom (l .loop .at) _ (c .before .before .before .loop-test .taken) (c .before .before .entry-end .ensures) (c .before .if1 .left) in
-    omega (arith, on .on, on .inside)
+loop-less c = omega (arith, on (c .before) .on, on (c .before) .inside)
 
 loop-again : tie.Need-loop-again Inv-loop μ-loop
 loop-again c =

@@ -7,15 +7,9 @@ use borrow.Author.Tests.{eqb-true}
 use denote.Ref.{now}
 use Rattle.drom.specs.Header.{headerRefusal}
 use Rattle.drom.proofs.HeaderLaws.{sizes}
-use borrow.Rule.Slice.PartAt.{part-to-end}
 use borrow.Author.Needs.{needs}
 use Rattle.drom.proofs.parts.head.Statement.{statement}
 use Rattle.drom.proofs.parts.head.Tie as tie
-use Rattle.drom.proofs.parts.head.Reads as reads
-use Rattle.drom.proofs.parts.head.Lts as lts
-use Rattle.drom.proofs.header.body_start.Reads as body-start-reads
-use Rattle.drom.proofs.header.is_accepted.Reads as is-accepted-reads
-use Rattle.drom.proofs.parts.none.Reads as none-reads
 
 is-accepted-requires : tie.Need-is-accepted-requires
 is-accepted-requires c κs = search needs

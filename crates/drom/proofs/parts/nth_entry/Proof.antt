@@ -1,4 +1,4 @@
-use mathlib.Core.Path.{_≡_, sym, ap, _∙_}
+use mathlib.Core.Path.{sym, ap, _∙_}
 use mathlib.Core.List.{[]}
 use Prim.Native.Nat.{ℕ}
 use native.Mathlib.Omega.{arith}
@@ -12,12 +12,6 @@ use Rattle.drom.proofs.HeaderLaws.{sizes}
 use borrow.Author.Needs.{needs}
 use Rattle.drom.proofs.parts.nth_entry.Statement.{statement}
 use Rattle.drom.proofs.parts.nth_entry.Tie as tie
-use Rattle.drom.proofs.parts.nth_entry.Reads as reads
-use Rattle.drom.proofs.parts.nth_entry.Lts as lts
-use Rattle.drom.proofs.header.body_start.Reads as body-start-reads
-use Rattle.drom.proofs.header.is_accepted.Reads as is-accepted-reads
-use Rattle.drom.proofs.parts.entry_from.Reads as entry-from-reads
-use Rattle.drom.proofs.parts.none.Reads as none-reads
 
 none-requires : tie.Need-none-requires
 none-requires c κs = search needs

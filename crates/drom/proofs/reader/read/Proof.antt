@@ -1,4 +1,4 @@
-use mathlib.Core.Path.{_≡_, refl, sym, ap, _∙_}
+use mathlib.Core.Path.{_≡_, sym, ap, _∙_}
 use native.Mathlib.Omega.{arith}
 use denote.Ref.{now}
 use lib.ListN.{length}
@@ -8,18 +8,6 @@ use Rattle.drom.proofs.ReportLaws.{report-walked, report-refused, leave
 use borrow.Author.Needs.{needs}
 use Rattle.drom.proofs.reader.read.Statement.{statement}
 use Rattle.drom.proofs.reader.read.Tie as tie
-use Rattle.drom.proofs.reader.read.Reads as reads
-use Rattle.drom.proofs.reader.read.Lts as lts
-use Rattle.drom.proofs.header.body_start.Reads as body-start-reads
-use Rattle.drom.proofs.header.is_crc32_valid.Reads as is-crc32-valid-reads
-use Rattle.drom.proofs.header.is_crc8_valid.Reads as is-crc8-valid-reads
-use Rattle.drom.proofs.header.refusal.Reads as refusal-reads
-use Rattle.drom.proofs.header.stated_length.Reads as stated-length-reads
-use Rattle.drom.proofs.header.stored_crc32.Reads as stored-crc32-reads
-use Rattle.drom.proofs.header.stored_crc8.Reads as stored-crc8-reads
-use Rattle.drom.proofs.header.stored_uuid.Reads as stored-uuid-reads
-use Rattle.drom.proofs.reader.refused.Reads as refused-reads
-use Rattle.drom.proofs.walk.walk.Reads as walk-reads
 
 refusal-requires : tie.Need-refusal-requires
 refusal-requires c κs = search needs

@@ -3,7 +3,7 @@ use mathlib.Core.List.{List}
 use Prim.Native.Nat.{ℕ, _+_, _-_, _*_, _≤_, _<_}
 use native.Mathlib.Omega.{arith}
 use denote.Ref.{now}
-use lib.ListN.{length, getD, take, drop, length-drop, length-take}
+use lib.ListN.{length, getD, take, drop, length-drop}
 use lib.Seq.{length-take-le}
 use Rattle.bits.specs.Front.{onto}
 use Rattle.entry.specs.declared.parse.Decoded.{Decoded}
@@ -15,10 +15,6 @@ use Rattle.drom.proofs.WalkLaws.{front-zero, front-past, front-whole}
 use borrow.Author.Needs.{needs}
 use Rattle.drom.proofs.walk.entry_at.Statement.{statement}
 use Rattle.drom.proofs.walk.entry_at.Tie as tie
-use Rattle.drom.proofs.walk.entry_at.Reads as reads
-use Rattle.drom.proofs.walk.entry_at.Lts as lts
-use Rattle.drom.proofs.walk.listed_kind.Reads as listed-kind-reads
-use Rattle.record.proofs.write_entry.Reads as write-entry-reads
 
 shared-slice-read-n : tie.Need-shared-slice-read-n
 shared-slice-read-n c = search needs

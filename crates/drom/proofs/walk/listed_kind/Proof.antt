@@ -9,9 +9,6 @@ use Rattle.entry.proofs.DecodeLaws.{row-unknown, row-generic, row-unused, decod
 use borrow.Author.Needs.{needs}
 use Rattle.drom.proofs.walk.listed_kind.Statement.{statement}
 use Rattle.drom.proofs.walk.listed_kind.Tie as tie
-use Rattle.drom.proofs.walk.listed_kind.Reads as reads
-use Rattle.drom.proofs.walk.listed_kind.Lts as lts
-use Rattle.entry.proofs.kind_in.Reads as kind-in-reads
 
 returns : tie.Need-returns
 returns c =

@@ -1,17 +1,13 @@
 use Rattle.drom.proofs.WalkTurns.{going-on}
-use mathlib.Core.Path.{_≡_, sym, _∙_}
-use Prim.Native.Nat.{ℕ, _+_, _-_, _≤_, _<_}
+use mathlib.Core.Path.{sym, _∙_}
+use Prim.Native.Nat.{_-_}
 use native.Mathlib.Omega.{arith}
-use denote.Ref.{now}
-use lib.ListN.{length, getD}
+use lib.ListN.{length}
 use Rattle.entry.specs.Adapters.{kindIn}
 use Rattle.drom.proofs.WalkTurns.{Going, going-start, going-room, going-next, going-refused, going-no-room, going-end}
 use borrow.Author.Needs.{needs}
 use Rattle.drom.proofs.walk.walk.Statement.{statement}
 use Rattle.drom.proofs.walk.walk.Tie as tie
-use Rattle.drom.proofs.walk.walk.Reads as reads
-use Rattle.drom.proofs.walk.walk.Lts as lts
-use Rattle.drom.proofs.walk.entry_at.Reads as entry-at-reads
 
 abbrev Inv-loop : tie.InvT-loop
 Inv-loop list drom start out₀ at₀ records₀ bytes₀ out at records bytes = Going (kindIn list) drom start out₀ out at records bytes

@@ -1,7 +1,6 @@
 -- `record::step::record_length` meets its contract. The two tests are those of the definition.
 -- Assumes nothing.
-use Prim.Native.Nat.{_<_, _≤_}
-use mathlib.Core.Path.{_≡_, sym, _∙_}
+use mathlib.Core.Path.{sym, _∙_}
 use native.Mathlib.Omega.{arith}
 use Rattle.record.proofs.StepLaws.{size-untagged, size-whole, size-cut}
 use borrow.Author.Needs.{needs}

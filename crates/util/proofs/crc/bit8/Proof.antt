@@ -6,9 +6,6 @@ use Rattle.util.specs.Crc.{bitOf8}
 use borrow.Author.Needs.{needs}
 use Rattle.util.proofs.crc.bit8.Statement.{statement}
 use Rattle.util.proofs.crc.bit8.Tie as tie
-use Rattle.util.proofs.crc.bit8.Reads as reads
-use Rattle.util.proofs.crc.bit8.Lts as lts
-use Rattle.util.proofs.crc.doubled.Reads as doubled-reads
 
 doubled-requires : tie.Need-doubled-requires
 doubled-requires c κs = search needs

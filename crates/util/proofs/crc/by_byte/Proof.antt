@@ -6,9 +6,6 @@ use Rattle.util.proofs.CrcLaws.{over-turn, over-end}
 use borrow.Author.Needs.{needs}
 use Rattle.util.proofs.crc.by_byte.Statement.{statement}
 use Rattle.util.proofs.crc.by_byte.Tie as tie
-use Rattle.util.proofs.crc.by_byte.Reads as reads
-use Rattle.util.proofs.crc.by_byte.Lts as lts
-use Rattle.util.proofs.crc.byte32.Reads as byte32-reads
 
 abbrev Inv-loop : tie.InvT-loop
 Inv-loop t c bytes x₀ i₀ x i = (i ≤ length bytes) × (over byteOf32 x (drop i bytes) ≡ over byteOf32 x₀ bytes)

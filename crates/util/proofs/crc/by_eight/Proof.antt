@@ -8,10 +8,6 @@ use Rattle.util.proofs.CrcLaws.{over-part, over-rest}
 use borrow.Author.Needs.{needs}
 use Rattle.util.proofs.crc.by_eight.Statement.{statement}
 use Rattle.util.proofs.crc.by_eight.Tie as tie
-use Rattle.util.proofs.crc.by_eight.Reads as reads
-use Rattle.util.proofs.crc.by_eight.Lts as lts
-use Rattle.util.proofs.crc.eight_bytes.Reads as eight-bytes-reads
-use Rattle.util.proofs.crc.rest_by_rows.Reads as rest-by-rows-reads
 
 abbrev Inv-loop : tie.InvT-loop
 Inv-loop t c bytes x₀ i₀ x i = (i ≤ length bytes) × (over byteOf32 x (drop i bytes) ≡ over byteOf32 x₀ bytes)

@@ -8,8 +8,6 @@ use Rattle.util.proofs.CrcLaws.{by-table}
 use borrow.Author.Needs.{needs}
 use Rattle.util.proofs.crc.byte32.Statement.{statement}
 use Rattle.util.proofs.crc.byte32.Tie as tie
-use Rattle.util.proofs.crc.byte32.Reads as reads
-use Rattle.util.proofs.crc.byte32.Lts as lts
 
 cast-at : tie.Need-cast-at
 cast-at c = search needs

@@ -2,9 +2,6 @@ use Rattle.util.specs.Crc.{byteOf8}
 use borrow.Author.Needs.{needs}
 use Rattle.util.proofs.crc.byte8.Statement.{statement}
 use Rattle.util.proofs.crc.byte8.Tie as tie
-use Rattle.util.proofs.crc.byte8.Reads as reads
-use Rattle.util.proofs.crc.byte8.Lts as lts
-use Rattle.util.proofs.crc.bit8.Reads as bit8-reads
 
 bit8-requires : tie.Need-bit8-requires
 bit8-requires c κs = search needs

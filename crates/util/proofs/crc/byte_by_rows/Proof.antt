@@ -6,10 +6,6 @@ use Rattle.util.proofs.CrcLaws.{first-byte}
 use borrow.Author.Needs.{needs}
 use Rattle.util.proofs.crc.byte_by_rows.Statement.{statement}
 use Rattle.util.proofs.crc.byte_by_rows.Tie as tie
-use Rattle.util.proofs.crc.byte_by_rows.Reads as reads
-use Rattle.util.proofs.crc.byte_by_rows.Lts as lts
-use Rattle.util.proofs.crc.byte_in_rows.Reads as byte-in-rows-reads
-use Rattle.util.proofs.crc.mixed.Reads as mixed-reads
 
 mixed-requires : tie.Need-mixed-requires
 mixed-requires c κs = search needs

@@ -3,8 +3,6 @@ use denote.Ref.{now}
 use borrow.Author.Needs.{needs}
 use Rattle.util.proofs.crc.byte_in_rows.Statement.{statement}
 use Rattle.util.proofs.crc.byte_in_rows.Tie as tie
-use Rattle.util.proofs.crc.byte_in_rows.Reads as reads
-use Rattle.util.proofs.crc.byte_in_rows.Lts as lts
 
 cast-low : tie.Need-cast-low
 cast-low c = search needs

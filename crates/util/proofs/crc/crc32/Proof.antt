@@ -2,11 +2,6 @@ use Rattle.util.specs.Crc.{crcOf32}
 use borrow.Author.Needs.{needs}
 use Rattle.util.proofs.crc.crc32.Statement.{statement}
 use Rattle.util.proofs.crc.crc32.Tie as tie
-use Rattle.util.proofs.crc.crc32.Reads as reads
-use Rattle.util.proofs.crc.crc32.Lts as lts
-use Rattle.util.proofs.crc.crc32_final.Reads as crc32-final-reads
-use Rattle.util.proofs.crc.crc32_more.Reads as crc32-more-reads
-use Rattle.util.proofs.crc.crc32_start.Reads as crc32-start-reads
 
 crc32-start-requires : tie.Need-crc32-start-requires
 crc32-start-requires c κs = search needs

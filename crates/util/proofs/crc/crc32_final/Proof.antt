@@ -2,8 +2,6 @@ use mathlib.Core.Path.{refl}
 use Rattle.util.specs.Crc.{final32}
 use Rattle.util.proofs.crc.crc32_final.Statement.{statement}
 use Rattle.util.proofs.crc.crc32_final.Tie as tie
-use Rattle.util.proofs.crc.crc32_final.Reads as reads
-use Rattle.util.proofs.crc.crc32_final.Lts as lts
 
 returns : tie.Need-returns
 unfolding final32

@@ -4,10 +4,6 @@ use Rattle.util.proofs.CrcLaws.{stepped, rowed}
 use borrow.Author.Needs.{needs}
 use Rattle.util.proofs.crc.crc32_more.Statement.{statement}
 use Rattle.util.proofs.crc.crc32_more.Tie as tie
-use Rattle.util.proofs.crc.crc32_more.Reads as reads
-use Rattle.util.proofs.crc.crc32_more.Lts as lts
-use Rattle.util.proofs.crc.by_byte.Reads as by-byte-reads
-use Rattle.util.proofs.crc.by_eight.Reads as by-eight-reads
 
 by-byte-requires : tie.Need-by-byte-requires
 unfolding bitOf32

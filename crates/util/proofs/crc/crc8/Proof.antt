@@ -6,9 +6,6 @@ use Rattle.util.proofs.CrcLaws.{over-turn, over-end}
 use borrow.Author.Needs.{needs}
 use Rattle.util.proofs.crc.crc8.Statement.{statement}
 use Rattle.util.proofs.crc.crc8.Tie as tie
-use Rattle.util.proofs.crc.crc8.Reads as reads
-use Rattle.util.proofs.crc.crc8.Lts as lts
-use Rattle.util.proofs.crc.byte8.Reads as byte8-reads
 
 abbrev Inv-loop : tie.InvT-loop
 Inv-loop bytes c₀ i₀ c i = (i ≤ length bytes) × (over byteOf8 c (drop i bytes) ≡ over byteOf8 c₀ bytes)

@@ -1,4 +1,4 @@
-use mathlib.Core.Path.{_≡_, ap, sym, _∙_}
+use mathlib.Core.Path.{_≡_, ap, _∙_}
 use Prim.Native.Nat.{ℕ, _+_, _<_}
 use native.Mathlib.Omega.{arith}
 use lib.ListN.{length, getD}
@@ -8,10 +8,6 @@ use Rattle.util.proofs.CrcLaws.{eight, listed-all}
 use borrow.Author.Needs.{needs}
 use Rattle.util.proofs.crc.eight_bytes.Statement.{statement}
 use Rattle.util.proofs.crc.eight_bytes.Tie as tie
-use Rattle.util.proofs.crc.eight_bytes.Reads as reads
-use Rattle.util.proofs.crc.eight_bytes.Lts as lts
-use Rattle.util.proofs.crc.byte_in_rows.Reads as byte-in-rows-reads
-use Rattle.util.proofs.crc.mixed.Reads as mixed-reads
 
 shared-slice-read-byte-in-rows : tie.Need-shared-slice-read-byte-in-rows
 shared-slice-read-byte-in-rows c = search needs

@@ -6,9 +6,6 @@ use Rattle.util.proofs.CrcLaws.{over-turn, over-end}
 use borrow.Author.Needs.{needs}
 use Rattle.util.proofs.crc.rest_by_rows.Statement.{statement}
 use Rattle.util.proofs.crc.rest_by_rows.Tie as tie
-use Rattle.util.proofs.crc.rest_by_rows.Reads as reads
-use Rattle.util.proofs.crc.rest_by_rows.Lts as lts
-use Rattle.util.proofs.crc.byte_by_rows.Reads as byte-by-rows-reads
 
 abbrev Inv-loop : tie.InvT-loop
 Inv-loop t c bytes x₀ i₀ x i = (i ≤ length bytes) × (over byteOf32 x (drop i bytes) ≡ over byteOf32 x₀ bytes)

@@ -1,13 +1,10 @@
-use mathlib.Core.Path.{refl, ap}
+use mathlib.Core.Path.{ap}
 use borrow.Author.Tests.{eq-eqb, ne-eqb, lt-ltb, le-ltb}
 use Rattle.util.specs.declared.utf16.Utf16Ascii.the-variants.{Written}
 use Rattle.util.specs.Utf16.{utf16Answer, utf16Leaves}
 use borrow.Author.Needs.{needs}
 use Rattle.util.proofs.utf16.bytes_to_utf16_ascii.Statement.{statement}
 use Rattle.util.proofs.utf16.bytes_to_utf16_ascii.Tie as tie
-use Rattle.util.proofs.utf16.bytes_to_utf16_ascii.Reads as reads
-use Rattle.util.proofs.utf16.bytes_to_utf16_ascii.Lts as lts
-use Rattle.util.proofs.utf16.write_text.Reads as write-text-reads
 
 returns : tie.Need-returns
 unfolding utf16Answer utf16Leaves

@@ -2,8 +2,6 @@ use borrow.Author.Tests.{lt-leb, le-leb}
 use Rattle.util.specs.Utf16.{isPair}
 use Rattle.util.proofs.utf16.is_pair.Statement.{statement}
 use Rattle.util.proofs.utf16.is_pair.Tie as tie
-use Rattle.util.proofs.utf16.is_pair.Reads as reads
-use Rattle.util.proofs.utf16.is_pair.Lts as lts
 
 returns : tie.Need-returns
 unfolding isPair

@@ -6,8 +6,6 @@ use Rattle.util.proofs.Text.{shown-one}
 use borrow.Author.Needs.{needs}
 use Rattle.util.proofs.utf16.kept_alone.Statement.{statement}
 use Rattle.util.proofs.utf16.kept_alone.Tie as tie
-use Rattle.util.proofs.utf16.kept_alone.Reads as reads
-use Rattle.util.proofs.utf16.kept_alone.Lts as lts
 
 returns : tie.Need-returns
 unfolding kept alone

@@ -4,11 +4,6 @@ use Rattle.util.proofs.Text.{shows-pair, shows-alone}
 use borrow.Author.Needs.{needs}
 use Rattle.util.proofs.utf16.next_shown.Statement.{statement}
 use Rattle.util.proofs.utf16.next_shown.Tie as tie
-use Rattle.util.proofs.utf16.next_shown.Reads as reads
-use Rattle.util.proofs.utf16.next_shown.Lts as lts
-use Rattle.util.proofs.utf16.is_pair.Reads as is-pair-reads
-use Rattle.util.proofs.utf16.kept_alone.Reads as kept-alone-reads
-use Rattle.util.proofs.utf16.unit_at.Reads as unit-at-reads
 
 unit-at-requires : tie.Need-unit-at-requires
 unit-at-requires c κs = search needs

@@ -8,8 +8,6 @@ use Rattle.util.proofs.Units.{units-at, units-none}
 use borrow.Author.Needs.{needs}
 use Rattle.util.proofs.utf16.unit_at.Statement.{statement}
 use Rattle.util.proofs.utf16.unit_at.Tie as tie
-use Rattle.util.proofs.utf16.unit_at.Reads as reads
-use Rattle.util.proofs.utf16.unit_at.Lts as lts
 
 sub-if1 : tie.Need-sub-if1
 sub-if1 c = search needs

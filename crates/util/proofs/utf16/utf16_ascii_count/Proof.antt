@@ -1,14 +1,10 @@
-use Prim.Native.Nat.{_-_, _<_}
+use Prim.Native.Nat.{_-_}
 use native.Mathlib.Omega.{arith}
 use lib.ListN.{length}
-use denote.Ref.{now}
 use Rattle.util.proofs.Text.{Counting, counting-start, counting-none, counting-one, counting-end}
 use borrow.Author.Needs.{needs}
 use Rattle.util.proofs.utf16.utf16_ascii_count.Statement.{statement}
 use Rattle.util.proofs.utf16.utf16_ascii_count.Tie as tie
-use Rattle.util.proofs.utf16.utf16_ascii_count.Reads as reads
-use Rattle.util.proofs.utf16.utf16_ascii_count.Lts as lts
-use Rattle.util.proofs.utf16.next_shown.Reads as next-shown-reads
 
 abbrev Inv-loop : tie.InvT-loop
 Inv-loop bytes i₀ n₀ i n = Counting bytes i n

@@ -1,14 +1,10 @@
-use Prim.Native.Nat.{_-_, _<_}
+use Prim.Native.Nat.{_-_}
 use native.Mathlib.Omega.{arith}
 use lib.ListN.{length}
-use denote.Ref.{now}
 use Rattle.util.proofs.Text.{Writing, writing-start, writing-none, writing-one, writing-end}
 use borrow.Author.Needs.{needs}
 use Rattle.util.proofs.utf16.write_text.Statement.{statement}
 use Rattle.util.proofs.utf16.write_text.Tie as tie
-use Rattle.util.proofs.utf16.write_text.Reads as reads
-use Rattle.util.proofs.utf16.write_text.Lts as lts
-use Rattle.util.proofs.utf16.next_shown.Reads as next-shown-reads
 
 abbrev Inv-loop : tie.InvT-loop
 Inv-loop bytes out₀ i₀ n₀ out i n = Writing bytes out₀ out i n

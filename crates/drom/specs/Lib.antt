@@ -1,5 +1,6 @@
 pub mod Numbers
 pub mod Header
+pub mod HeaderValues
 pub mod Walk
 pub mod Cut
 pub mod Report

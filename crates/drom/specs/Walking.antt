@@ -1,4 +1,5 @@
 -- What the walk's own function tells of a walk, and leaves of the buffer.
+-- Only a private function's contract cites it; no public promise rests on it.
 -- Assumes nothing.
 use mathlib.Core.Path.{_≡_}
 use mathlib.Core.List.{List, flatten}

@@ -7,6 +7,7 @@ ghost use lib.ListN.{length};
 ghost use Rattle.drom.specs.Numbers.{firstOf};
 ghost use Rattle.drom.specs.Header.{crc8In, uuidIn, crc32In, lengthIn, isTbt3, bodyStart, crc8Right, crc32Right, headerTests, headerRefusal};
 ghost use Rattle.drom.specs.Report.{refusalOf};
+ghost use Rattle.drom.specs.HeaderValues.{headerValues};
 
 pub(crate) fn stated_length(drom: &[u8]) -> usize
     requires { ⌜ 16 ≤ length (now drom) ⌝ }
@@ -121,4 +122,41 @@ pub(crate) fn is_crc8_valid(drom: &[u8]) -> bool
         return util::crc8(&drom[1..9]) == drom[0];
     }
     false
+}
+
+// The values of a header: of the first 16 bytes of a DROM, or more.
+pub struct HeaderValues {
+    pub version: u8,
+    pub length: usize,
+    pub start: usize,
+    pub crc32: u32,
+    pub crc8: u8,
+    pub uuid: u64,
+    pub crc8good: bool,
+}
+
+// Zeros and no where there are fewer than 16 bytes.
+pub fn header_values(bytes: &[u8]) -> HeaderValues
+    ensures { λ r. ⌜ r ≡ headerValues (now (bytes .entry)) ⌝ }
+{
+    if bytes.len() < 16 {
+        return HeaderValues {
+            version: 0,
+            length: 0,
+            start: 0,
+            crc32: 0,
+            crc8: 0,
+            uuid: 0,
+            crc8good: false,
+        };
+    }
+    HeaderValues {
+        version: bytes[13],
+        length: stated_length(bytes),
+        start: body_start(bytes),
+        crc32: stored_crc32(bytes),
+        crc8: stored_crc8(bytes),
+        uuid: stored_uuid(bytes),
+        crc8good: is_crc8_valid(bytes),
+    }
 }

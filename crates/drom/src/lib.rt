@@ -1,9 +1,11 @@
 // A DROM that is lent whole: its report, its records, and parts of its own bytes.
-mod header;
+pub mod header;
 pub mod parts;
 pub mod reader;
 mod walk;
 
+pub use header::HeaderValues;
+pub use header::header_values;
 pub use parts::body;
 pub use parts::bytes;
 pub use parts::head;

@@ -2,14 +2,9 @@
 ghost use mathlib.Core.Path.{_≡_};
 ghost use lib.ListN.{length};
 ghost use Rattle.drom.specs.Report.{refusedReport, reportOf, leavesOf};
-use super::header::body_start;
-use super::header::is_crc8_valid;
+use super::header::header_values;
 use super::header::is_crc32_valid;
 use super::header::refusal;
-use super::header::stated_length;
-use super::header::stored_crc8;
-use super::header::stored_crc32;
-use super::header::stored_uuid;
 use super::walk::walk;
 
 // What is told of a DROM: a refusal's number and offset, or 0 and 0; the header's values and verdicts; how many records were
@@ -57,19 +52,20 @@ pub fn read(list: &[u8], drom: &[u8], out: &mut [u8]) -> Report
     if number != 0 {
         return refused(number);
     }
-    let start = body_start(drom);
+    let h = header_values(drom);
+    let start = h.start;
     let w = walk(list, drom, start, out);
     Report {
         number: w.number,
         offset: w.offset,
-        version: drom[13],
-        length: stated_length(drom),
+        version: h.version,
+        length: h.length,
         start,
-        crc32: stored_crc32(drom),
+        crc32: h.crc32,
         crc32good: is_crc32_valid(drom),
-        crc8: stored_crc8(drom),
-        uuid: stored_uuid(drom),
-        crc8good: is_crc8_valid(drom),
+        crc8: h.crc8,
+        uuid: h.uuid,
+        crc8good: h.crc8good,
         records: w.records,
         bytes: w.bytes,
     }

@@ -1,4 +1,5 @@
 -- What `char_len` tells of the character at an index, which `is_utf8` steps by.
+-- Only a private function's contract cites it; no public promise rests on it.
 -- Assumes nothing.
 use mathlib.Core.Path.{_≡_}
 use mathlib.Core.Bool.{false}

@@ -1,4 +1,5 @@
 -- What a step over UTF-16 units tells: the byte that it shows, where 0 stands for none (no kept character is 0), and where to go on.
+-- Only a private function's contract cites it; no public promise rests on it.
 -- Assumes nothing.
 use mathlib.Core.Path.{_≡_}
 use mathlib.Core.List.{List, [], _∷_, _++_}

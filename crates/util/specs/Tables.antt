@@ -1,4 +1,5 @@
 -- What the two constant tables of src/tables.rt hold, as rules over all their entries.
+-- Only private functions' contracts cite them; no public promise rests on them.
 -- Assumes nothing.
 use mathlib.Core.Path.{_≡_}
 use mathlib.Core.List.{List}

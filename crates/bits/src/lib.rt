@@ -1,7 +1,7 @@
 // Bytes at the front of a lent buffer, and numbers of several bytes.
 ghost use mathlib.Core.Path.{_≡_};
 ghost use mathlib.Core.List.{_∷_, []};
-ghost use Rattle.bits.specs.Bits.{le2, le4, le8};
+ghost use Rattle.bits.specs.Bits.{byte, le2, le4, le8};
 ghost use Rattle.bits.specs.Front.{Put};
 
 // A writer writes all of its bytes and returns how many they are, or, where the buffer has no room for them, writes nothing and
@@ -65,6 +65,13 @@ pub fn put_all(bytes: &[u8], out: &mut [u8]) -> usize
         i += 1;
     }
     i
+}
+
+// The byte at an index, and 0 past the end.
+pub fn byte_at(bytes: &[u8], i: usize) -> u8
+    ensures { λ r. ⌜ r ≡ byte i (now (bytes .entry)) ⌝ }
+{
+    if i < bytes.len() { bytes[i] } else { 0 }
 }
 
 // Numbers of two, four and eight bytes, little-endian: the first byte is the least significant.

@@ -9,22 +9,20 @@ ghost use Rattle.drom.specs.Header.{crc8In, uuidIn, crc32In, lengthIn, i
 ghost use Rattle.drom.specs.Report.{refusalOf};
 ghost use Rattle.drom.specs.HeaderValues.{headerValues};
 
-pub(crate) fn stated_length(drom: &[u8]) -> usize
-    requires { ⌜ 16 ≤ length (now drom) ⌝ }
+// The length that a header states. Bytes that are not there count as 0, here and in the next two.
+pub fn stated_length(drom: &[u8]) -> usize
     ensures { λ r. ⌜ r ≡ lengthIn (now (drom .entry)) ⌝ }
 {
-    (bits::le16(drom[14], drom[15]) % 4096) as usize
+    (bits::le16(bits::byte_at(drom, 14), bits::byte_at(drom, 15)) % 4096) as usize
 }
 
-pub(crate) fn is_tbt3(drom: &[u8]) -> bool
-    requires { ⌜ 16 ≤ length (now drom) ⌝ }
+pub fn is_tbt3(drom: &[u8]) -> bool
     ensures { λ r. ⌜ r ≡ isTbt3 (now (drom .entry)) ⌝ }
 {
-    drom[13] < 3
+    bits::byte_at(drom, 13) < 3
 }
 
-pub(crate) fn body_start(drom: &[u8]) -> usize
-    requires { ⌜ 16 ≤ length (now drom) ⌝ }
+pub fn body_start(drom: &[u8]) -> usize
     ensures { λ r. ⌜ r ≡ bodyStart (now (drom .entry)) ⌝ }
 {
     if is_tbt3(drom) { 22 } else { 16 }

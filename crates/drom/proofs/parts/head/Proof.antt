@@ -15,7 +15,7 @@ is-accepted-requires : tie.Need-is-accepted-requires
 is-accepted-requires c κs = search needs
 
 body-start-requires : tie.Need-body-start-requires
-body-start-requires c κs = sizes (now (c .before .before .before .args .drom)) (eqb-true (headerRefusal (now (c .before .before .before .args .drom))) 0 (sym (c .before .is-accepted .ensures) ∙ c .if1 .taken)) .least
+body-start-requires c κs = search needs
 
 sub-result : tie.Need-sub-result
 sub-result c = omega (arith, c .body-start .ensures, sizes (now (c .before .before .before .before .args .drom)) (eqb-true (headerRefusal (now (c .before .before .before .before .args .drom))) 0 (sym (c .before .before .is-accepted .ensures) ∙ c .before .if1 .taken)) .inside)

@@ -23,7 +23,7 @@ is-accepted-requires : tie.Need-is-accepted-requires
 is-accepted-requires c κs = search needs
 
 body-start-requires : tie.Need-body-start-requires
-body-start-requires c κs = sizes (now (c .before .before .before .before .before .args .drom)) (eqb-true (headerRefusal (now (c .before .before .before .before .before .args .drom))) 0 (sym (c .before .is-accepted .ensures) ∙ c .if2 .taken)) .least
+body-start-requires c κs = search needs
 
 entry-from-requires : tie.Need-entry-from-requires
 entry-from-requires c κs = omega (arith, c .body-start .ensures, sizes (now (c .before .before .before .before .before .before .args .drom)) (eqb-true (headerRefusal (now (c .before .before .before .before .before .before .args .drom))) 0 (sym (c .before .before .is-accepted .ensures) ∙ c .before .if2 .taken)) .inside)

@@ -1,0 +1,18 @@
+use mathlib.Core.Path.{ap}
+use Prim.Native.Nat.{ℕ}
+use lib.Dec.{ltb}
+use borrow.Author.Needs.{needs}
+use Rattle.drom.proofs.header.is_tbt3.Statement.{statement}
+use Rattle.drom.proofs.header.is_tbt3.Tie as tie
+use Rattle.drom.proofs.header.is_tbt3.Reads as reads
+use Rattle.drom.proofs.header.is_tbt3.Lts as lts
+use Rattle.bits.proofs.byte_at.Reads as byte-at-reads
+
+byte-at-requires : tie.Need-byte-at-requires
+byte-at-requires c κs = search needs
+
+returns : tie.Need-returns
+returns c = ap (λ (n : ℕ). ltb n 3) (c .byte-at .ensures)
+
+pub is-tbt3-spec : {M : Type 1} → statement M
+is-tbt3-spec = tie.close (tie.spec byte-at-requires returns)

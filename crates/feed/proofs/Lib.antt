@@ -1,0 +1,16 @@
+pub mod StepLaws
+pub mod EndLaws
+pub mod FeedLaws
+pub mod OpenLaws
+pub mod KindLaws
+pub mod RegisterLaws
+pub mod MoveLaws
+pub mod Cutting
+pub mod Never
+pub mod PrefixEntries
+pub mod PrefixHeader
+pub mod PrefixLaws
+pub mod Pieces
+pub mod FinishLaws
+pub mod Demand3
+pub mod PrefixBegins

@@ -1,0 +1,30 @@
+-- The bounds of a run as facts: those that `inBounds` tests, and those that the types and the buffer lent give.
+-- Assumes nothing.
+use mathlib.Core.Path.{_≡_}
+use Prim.Native.Nat.{ℕ, _-_, _*_, _^_, _≤_, _<_}
+use mathlib.Core.List.{List}
+use lib.ListN.{length, getD}
+use Rattle.feed.specs.declared.feeding.Core.{Core}
+use Rattle.feed.specs.Run.{Run}
+
+-- while nothing is refused
+pub record Live (c : Core) : Type 0 where
+  pub small : 16 ≤ c .taken → c .announced ≤ 4108
+  pub filling : c .fill ≤ 254
+  pub fewer : c .count ≤ c .taken
+  pub kept : c .fill ≤ c .taken - 16
+  pub room : c .written ≤ 4 * (c .taken - 16 - c .fill)
+
+pub record Good (r : Run) : Type 0 where
+  pub live : r .core .refusal ≡ 0 → Live (r .core)
+  pub wide : r .core .announced < 2 ^ 64
+  pub within : r .core .taken ≤ r .core .announced
+  pub first : getD (r .pending) 0 0 < 256
+  pub head : length (r .header) ≡ 16
+  pub long : length (r .pending) ≡ 255
+  pub table : length (r .kinds) ≡ 64
+  pub lent : 16368 ≤ length (r .buffer)
+
+-- the same run, whatever the header: an entry's bytes do not touch it
+abbrev pub AnyHeader : (List ℕ → Run) → (List ℕ → Run) → Type 0
+AnyHeader f g = (h : List ℕ) → f h ≡ g h

@@ -1,0 +1,135 @@
+-- Document 01, "Feeding": what an opening, a feed and a finish answer, and the states and buffers that they leave.
+-- Assumes nothing.
+use mathlib.Core.Bool.{Bool, cond, not, _&&_, _||_}
+use mathlib.Core.List.{List, [], _∷_}
+use Prim.Native.Nat.{ℕ, _-_, _*_}
+use lib.Dec.{ltb, leb, eqb}
+use lib.ListN.{length, replicate, drop}
+use Rattle.util.specs.Crc.{over, byteOf32, start32, final32}
+use Rattle.drom.specs.declared.reader.Report.{Report}
+use Rattle.drom.specs.Numbers.{firstOf}
+use Rattle.drom.specs.Header.{crc8In, uuidIn, crc32In, versionIn, lengthIn, isTbt3, bodyStart, crc8Right, roomFor, openTests}
+use Rattle.drom.specs.Report.{refusedReport}
+use Rattle.feed.specs.declared.feeding.Core.{Core}
+use Rattle.feed.specs.declared.feeding.State.{State}
+use Rattle.feed.specs.declared.feeding.Fed.{Fed}
+use Rattle.feed.specs.Kinds.{tableOf}
+use Rattle.feed.specs.Run.{Run, run, steps}
+
+-- feed's own numbers
+abbrev pub beyond : ℕ
+beyond = 12
+
+abbrev pub missing : ℕ
+missing = 13
+
+abbrev pub outside : ℕ
+outside = 18
+
+-- a state as an opening makes it
+abbrev pub fresh : ℕ → ℕ → List ℕ → State
+fresh size refusal kinds =
+    record {
+      core = record { announced = size; taken = 0; refusal = refusal; offset = 0; register = start32; fill = 0; count = 0; written = 0 };
+      header = replicate 16 0;
+      pending = replicate 255 0;
+      kinds = kinds;
+    }
+
+-- "opening takes list, buffer and announced size and checks 5, 4, 1. A refused opening holds that number and an announced size of 0"
+abbrev pub openedBy : ℕ → List ℕ → ℕ → State
+openedBy refusal list size = cond (eqb refusal 0) (fresh size 0 (tableOf list)) (fresh 0 refusal (replicate 64 0))
+
+unfoldable pub openOf : List ℕ → ℕ → ℕ → State
+openOf list size room = openedBy (firstOf (openTests list size room)) list size
+
+-- The bounds of a state, of which docs/ has the list: no more bytes are taken than announced; and, unless something is refused: the
+-- pending entry has at most 254 bytes, there are no more records than bytes, before the header is in nothing is pending or written, and
+-- then the size is one that passes, what is pending came behind the header, and what is written is at most four bytes for each byte of
+-- the entries before.
+unfoldable pub inBounds : Core → Bool
+inBounds c =
+    leb (c .taken) (c .announced)
+    && (not (eqb (c .refusal) 0)
+    || (leb (c .fill) 254
+    && leb (c .count) (c .taken)
+    && cond (ltb (c .taken) 16) (eqb (c .fill) 0 && eqb (c .written) 0)
+    (leb (c .announced) 4108 && leb (c .fill) (c .taken - 16) && leb (c .written) (4 * (c .taken - 16 - c .fill)))))
+
+-- the register of CRC32 goes on over the bytes from 13 on, where `taken` bytes are in before these
+abbrev pub registerAfter : ℕ → ℕ → List ℕ → ℕ
+registerAfter register taken bytes = over byteOf32 register (drop (13 - taken) bytes)
+
+abbrev pub runIn : State → List ℕ → Run
+runIn s buffer = run (s .core) (s .header) (s .pending) (s .kinds) buffer
+
+-- the state of a run, with the register
+abbrev pub stateAfter : Run → ℕ → State
+stateAfter r register =
+    record {
+      core =
+          record {
+            announced = r .core .announced;
+            taken = r .core .taken;
+            refusal = r .core .refusal;
+            offset = r .core .offset;
+            register = register;
+            fill = r .core .fill;
+            count = r .core .count;
+            written = r .core .written;
+          };
+      header = r .header;
+      pending = r .pending;
+      kinds = r .kinds;
+    }
+
+-- a feed's number and state, and the buffer that it leaves
+pub record Answer : Type 0 where
+  pub fed : Fed
+  pub buffer : List ℕ
+
+abbrev pub answer : ℕ → State → List ℕ → Answer
+answer n s buffer = record { fed = record { number = n; state = s }; buffer = buffer }
+
+abbrev pub both : Fed → List ℕ → Answer
+both f buffer = record { fed = f; buffer = buffer }
+
+-- "A feed answers 0, 18, 4 or 12, tested as 18, 4, 12; each refusal leaves everything as it was."
+abbrev pub feedTests : State → List ℕ → ℕ → List (Bool × ℕ)
+feedTests s piece room =
+    (not (inBounds (s .core)), outside) ∷ (ltb room (roomFor (s .core .announced)), 4) ∷ (ltb (s .core .announced - s .core .taken) (length piece), beyond) ∷ []
+
+abbrev pub feedBy : ℕ → State → List ℕ → List ℕ → Answer
+feedBy refusal s piece buffer =
+    cond (eqb refusal 0)
+    (answer 0 (stateAfter (steps (runIn s buffer) piece) (registerAfter (s .core .register) (s .core .taken) piece)) (steps (runIn s buffer) piece .buffer))
+    (answer refusal s buffer)
+
+unfoldable pub feedOf : State → List ℕ → List ℕ → Answer
+feedOf s piece buffer = feedBy (firstOf (feedTests s piece (length buffer))) s piece buffer
+
+-- what a finished state tells: zeros for 1 to 5; else the header's values and verdicts, and what was recorded
+abbrev pub told : Core → List ℕ → Report
+told c h =
+    record {
+      number = c .refusal;
+      offset = c .offset;
+      version = versionIn h;
+      length = lengthIn h;
+      start = bodyStart h;
+      crc32 = crc32In h;
+      crc32good = eqb (final32 (c .register)) (crc32In h);
+      crc8 = cond (isTbt3 h) (crc8In h) 0;
+      uuid = cond (isTbt3 h) (uuidIn h) 0;
+      crc8good = crc8Right h;
+      records = c .count;
+      bytes = c .written;
+    }
+
+-- "Finish gives 18 first, then 13 if bytes are missing, else the report"
+unfoldable pub finishOf : State → Report
+finishOf s =
+    cond (inBounds (s .core))
+    (cond (ltb (s .core .taken) (s .core .announced)) (refusedReport missing)
+    (cond (leb 1 (s .core .refusal) && leb (s .core .refusal) 5) (refusedReport (s .core .refusal)) (told (s .core) (s .header))))
+    (refusedReport outside)

@@ -1,0 +1,428 @@
+// A DROM that comes in pieces, cut anywhere: a state by value that takes the bytes in, and writes each record as its entry is whole.
+ghost use mathlib.Core.Path.{_≡_};
+ghost use mathlib.Core.Bool.{true};
+ghost use Prim.Native.Nat.{_+_, _-_, _*_, _%_, _≤_, _<_};
+ghost use lib.ListN.{length, getD, replicate};
+ghost use Rattle.entry.specs.Decode.{numberOf};
+ghost use Rattle.drom.specs.Report.{refusedReport};
+ghost use Rattle.feed.specs.Kinds.{tableOf};
+ghost use Rattle.feed.specs.Run.{run, judged, ended, kept, stepOf, steps};
+ghost use Rattle.feed.specs.Bounds.{Good, AnyHeader};
+ghost use Rattle.feed.specs.Feed.{fresh, openOf, inBounds, registerAfter, runIn, stateAfter, both, feedOf, told, finishOf};
+use drom::Report;
+use drom::header::body_start;
+use drom::header::is_tbt3;
+use drom::header::stated_length;
+use record::Written;
+
+// The numbers of a state. `register` is CRC32's; `fill` bytes of an entry are pending.
+pub struct Core {
+    pub announced: usize,
+    pub taken: usize,
+    pub refusal: u8,
+    pub offset: usize,
+    pub register: u32,
+    pub fill: usize,
+    pub count: usize,
+    pub written: usize,
+}
+
+pub struct State {
+    pub core: Core,
+    pub header: [u8; 16],
+    pub pending: [u8; 255],
+    pub kinds: [u8; 64],
+}
+
+// A feed's number, and the state that it leaves.
+pub struct Fed {
+    pub number: u8,
+    pub state: State,
+}
+
+fn wide(x: u8) -> usize
+    ensures { λ r. ⌜ r ≡ x ⌝ }
+{
+    x as usize
+}
+
+// ---- one byte
+
+// The kind in the table for an entry's number: that of its second byte, or 0.
+fn kind_for(kinds: &[u8; 64], entry: &[u8]) -> u8
+    ensures { λ r. ⌜ r ≡ getD (now (kinds .entry)) (numberOf (now (entry .entry))) 0 ⌝ }
+{
+    if entry.len() < 2 {
+        return kinds[0];
+    }
+    let number = wide(entry[1] % 64);
+    kinds[number]
+}
+
+// Writes the record of the entry that is pending behind the others, or refuses it.
+fn complete(core: Core, pending: &[u8], kinds: &[u8; 64], records: &mut [u8]) -> Core
+    requires { ⌜ (length (now pending) ≡ 255) × (core .fill ≤ 254) × (core .fill < core .taken) × (core .written + 4 * (core .fill + 1) ≤ length (now records)) × (core .written < 20000) × (core .count < 20000) ⌝ }
+    ensures { λ r. ⌜ AnyHeader (λ h. run r h (now (pending .entry)) (now (kinds .entry)) (now (records .exit))) (λ h. ended (run core h (now (pending .entry)) (now (kinds .entry)) (now (records .entry)))) ⌝ }
+{
+    let end = core.fill + 1;
+    let at = core.taken - end;
+    let written = core.written;
+    let bytes = &pending[..end];
+    let kind = kind_for(kinds, bytes);
+    let mut c = core;
+    match record::write_entry(bytes, kind, at, &mut records[written..]) {
+        Written::Record(n) => {
+            c.fill = 0;
+            c.count = core.count + 1;
+            c.written = written + n;
+            c
+        }
+        Written::Refused(number) => {
+            c.refusal = number;
+            c.offset = at;
+            c
+        }
+        // The bounds leave room for any entry.
+        Written::NoRoom => c,
+    }
+}
+
+// Keeps a byte of an entry; with its last, the entry is whole.
+fn keep(core: Core, b: u8, pending: &mut [u8; 255], kinds: &[u8; 64], records: &mut [u8]) -> Core
+    requires { ⌜ (core .fill ≤ 254) × (core .fill < core .taken) × (core .written + 4 * (core .fill + 1) ≤ length (now records)) × (core .written < 20000) × (core .count < 20000) ⌝ }
+    ensures { λ r. ⌜ AnyHeader (λ h. run r h (now (pending .exit)) (now (kinds .entry)) (now (records .exit))) (λ h. kept (run core h (now (pending .entry)) (now (kinds .entry)) (now (records .entry))) b) ⌝ }
+{
+    let fill = core.fill;
+    pending[fill] = b;
+    let l = wide(pending[0]);
+    if fill + 1 < l {
+        let mut c = core;
+        c.fill = fill + 1;
+        c
+    } else {
+        complete(core, pending, kinds, records)
+    }
+}
+
+// Judges a header whose 16 bytes are in.
+fn judge(core: Core, header: &[u8]) -> Core
+    requires { ⌜ 16 ≤ length (now header) ⌝ }
+    ensures { λ r. ⌜ r ≡ judged core (now (header .entry)) ⌝ }
+{
+    let mut c = core;
+    c.refusal = 0;
+    c.offset = 0;
+    if stated_length(header) + 13 != core.announced {
+        c.refusal = 2;
+        return c;
+    }
+    if is_tbt3(header) {
+        if core.announced < 22 {
+            c.refusal = 3;
+            return c;
+        }
+        return c;
+    }
+    c
+}
+
+fn step(
+    core: Core,
+    b: u8,
+    header: &mut [u8; 16],
+    pending: &mut [u8; 255],
+    kinds: &[u8; 64],
+    records: &mut [u8],
+) -> Core
+    requires { ⌜ Good (run core (now header) (now pending) (now kinds) (now records)) × (core .taken < core .announced) ⌝ }
+    ensures { λ r. ⌜ run r (now (header .exit)) (now (pending .exit)) (now (kinds .entry)) (now (records .exit)) ≡ stepOf (run core (now (header .entry)) (now (pending .entry)) (now (kinds .entry)) (now (records .entry))) b ⌝ }
+{
+    let at = core.taken;
+    let fill = core.fill;
+    let mut c = core;
+    c.taken = at + 1;
+    if core.refusal != 0 {
+        return c;
+    }
+    if at < 15 {
+        header[at] = b;
+        return c;
+    }
+    if at == 15 {
+        header[at] = b;
+        return judge(c, header);
+    }
+    if at < body_start(header) {
+        return c;
+    }
+    if fill != 0 {
+        return keep(c, b, pending, kinds, records);
+    }
+    if b == 0 {
+        c.refusal = 6;
+        c.offset = at;
+        return c;
+    }
+    if core.announced - at < b as usize {
+        c.refusal = 7;
+        c.offset = at;
+        return c;
+    }
+    keep(c, b, pending, kinds, records)
+}
+
+// ---- a piece
+
+// Whether a state is one that feeding can leave, as far as no byte can do harm.
+fn in_bounds(c: Core) -> bool
+    ensures { λ r. ⌜ r ≡ inBounds c ⌝ }
+{
+    if c.announced < c.taken {
+        return false;
+    }
+    if c.refusal != 0 {
+        return true;
+    }
+    if 254 < c.fill {
+        return false;
+    }
+    if c.taken < c.count {
+        return false;
+    }
+    if c.taken < 16 {
+        if c.fill != 0 {
+            return false;
+        }
+        return c.written == 0;
+    }
+    if 4108 < c.announced {
+        return false;
+    }
+    let body = c.taken - 16;
+    if body < c.fill {
+        return false;
+    }
+    c.written <= 4 * (body - c.fill)
+}
+
+// CRC32's register after a piece: it covers the bytes from 13 on.
+fn register_after(register: u32, taken: usize, piece: &[u8]) -> u32
+    ensures { λ r. ⌜ r ≡ registerAfter register taken (now (piece .entry)) ⌝ }
+{
+    if 13 <= taken {
+        return util::crc32_more(register, piece);
+    }
+    let skipped = 13 - taken;
+    if piece.len() <= skipped {
+        return register;
+    }
+    util::crc32_more(register, &piece[skipped..])
+}
+
+// The loop over a piece. A byte in the middle of an entry, which most are, is kept without a call.
+fn take_in(state: State, piece: &[u8], records: &mut [u8]) -> State
+    requires { ⌜ (inBounds (state .core) ≡ true) × (16368 ≤ length (now records)) × (length (now piece) ≤ state .core .announced - state .core .taken) ⌝ }
+    ensures state { λ r. ⌜ r ≡ stateAfter (steps (runIn state (now (records .entry))) (now (piece .entry))) (registerAfter (state .core .register) (state .core .taken) (now (piece .entry))) ⌝ }
+    ensures buffer { λ r. ⌜ now (records .exit) ≡ steps (runIn state (now (records .entry))) (now (piece .entry)) .buffer ⌝ }
+{
+    let mut core = state.core;
+    let register = register_after(core.register, core.taken, piece);
+    let mut header = state.header;
+    let mut pending = state.pending;
+    let kinds = state.kinds;
+    let mut i: usize = 0;
+    while i < piece.len() {
+        let b = piece[i];
+        i += 1;
+        let at = core.taken;
+        let fill = core.fill;
+        if core.refusal == 0 {
+            if fill != 0 {
+                if fill + 1 < wide(pending[0]) {
+                    // Where something is pending the header is in, and a body starts at 22 or before.
+                    if 21 < at {
+                        pending[fill] = b;
+                        core.taken = at + 1;
+                        core.fill = fill + 1;
+                        continue;
+                    }
+                }
+            }
+        }
+        core = step(core, b, &mut header, &mut pending, &kinds, records);
+    }
+    core.register = register;
+    State {
+        core,
+        header,
+        pending,
+        kinds,
+    }
+}
+
+// Takes a piece in: 18, 4 or 12 and everything as it was, or 0.
+pub fn feed(state: State, piece: &[u8], records: &mut [u8]) -> Fed
+    ensures { λ r. ⌜ both r (now (records .exit)) ≡ feedOf state (now (piece .entry)) (now (records .entry)) ⌝ }
+{
+    let core = state.core;
+    if !in_bounds(core) {
+        return Fed { number: 18, state };
+    }
+    if records.len() < 16368 {
+        return Fed { number: 4, state };
+    }
+    if core.announced - core.taken < piece.len() {
+        return Fed { number: 12, state };
+    }
+    let s = take_in(state, piece, records);
+    Fed {
+        number: 0,
+        state: s,
+    }
+}
+
+pub fn record_count(state: State) -> usize
+    ensures { λ r. ⌜ r ≡ state .core .count ⌝ }
+{
+    state.core.count
+}
+
+pub fn record_bytes(state: State) -> usize
+    ensures { λ r. ⌜ r ≡ state .core .written ⌝ }
+{
+    state.core.written
+}
+
+// ---- opening
+
+// The kinds by number, 0 to 63. The list is taken from its end, so that the first adapter with a number counts.
+fn table_of(list: &[u8]) -> [u8; 64]
+    requires { ⌜ length (now list) % 2 ≡ 0 ⌝ }
+    ensures { λ r. ⌜ r ≡ tableOf (now (list .entry)) ⌝ }
+{
+    let mut kinds: [u8; 64] = [0; 64];
+    let mut i = list.len();
+    while 2 <= i {
+        i -= 2;
+        let number = wide(list[i]);
+        if 64 <= number {
+            continue;
+        }
+        kinds[number] = list[i + 1];
+    }
+    kinds
+}
+
+fn fresh_core(announced: usize, refusal: u8) -> Core
+    ensures { λ r. ⌜ r ≡ fresh announced refusal (replicate 64 0) .core ⌝ }
+{
+    Core {
+        announced,
+        taken: 0,
+        refusal,
+        offset: 0,
+        register: util::crc32_start(),
+        fill: 0,
+        count: 0,
+        written: 0,
+    }
+}
+
+// No byte can be fed to an opening that is refused: its announced size is 0.
+fn refused_opening(number: u8) -> State
+    ensures { λ r. ⌜ r ≡ fresh 0 number (replicate 64 0) ⌝ }
+{
+    let core = fresh_core(0, number);
+    State {
+        core,
+        header: [0; 16],
+        pending: [0; 255],
+        kinds: [0; 64],
+    }
+}
+
+// A state for a DROM of an announced size, its adapters listed as bytes: number, kind, number, kind, ..
+pub fn open(list: &[u8], announced: usize, records: &[u8]) -> State
+    ensures { λ r. ⌜ r ≡ openOf (now (list .entry)) announced (length (now (records .entry))) ⌝ }
+{
+    if list.len() % 2 == 1 {
+        return refused_opening(5);
+    }
+    if records.len() < 16368 {
+        return refused_opening(4);
+    }
+    if announced < 16 {
+        return refused_opening(1);
+    }
+    let core = fresh_core(announced, 0);
+    let kinds = table_of(list);
+    State {
+        core,
+        header: [0; 16],
+        pending: [0; 255],
+        kinds,
+    }
+}
+
+// ---- finishing
+
+fn refused_report(number: u8) -> Report
+    ensures { λ r. ⌜ r ≡ refusedReport number ⌝ }
+{
+    Report {
+        number,
+        offset: 0,
+        version: 0,
+        length: 0,
+        start: 0,
+        crc32: 0,
+        crc32good: false,
+        crc8: 0,
+        uuid: 0,
+        crc8good: false,
+        records: 0,
+        bytes: 0,
+    }
+}
+
+fn report(core: Core, header: &[u8]) -> Report
+    requires { ⌜ 16 ≤ length (now header) ⌝ }
+    ensures { λ r. ⌜ r ≡ told core (now (header .entry)) ⌝ }
+{
+    let h = drom::header_values(header);
+    Report {
+        number: core.refusal,
+        offset: core.offset,
+        version: h.version,
+        length: h.length,
+        start: h.start,
+        crc32: h.crc32,
+        crc32good: util::crc32_final(core.register) == h.crc32,
+        crc8: h.crc8,
+        uuid: h.uuid,
+        crc8good: h.crc8good,
+        records: core.count,
+        bytes: core.written,
+    }
+}
+
+// The report: 18 first, then 13 if bytes are missing.
+pub fn finish(state: State) -> Report
+    ensures { λ r. ⌜ r ≡ finishOf state ⌝ }
+{
+    let core = state.core;
+    if !in_bounds(core) {
+        return refused_report(18);
+    }
+    if core.taken < core.announced {
+        return refused_report(13);
+    }
+    let header = state.header;
+    if core.refusal == 0 {
+        return report(core, &header);
+    }
+    if core.refusal <= 5 {
+        return refused_report(core.refusal);
+    }
+    report(core, &header)
+}

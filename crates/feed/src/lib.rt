@@ -1,0 +1,11 @@
+// A DROM that comes in pieces: open, feed, finish.
+pub mod feeding;
+
+pub use feeding::Core;
+pub use feeding::Fed;
+pub use feeding::State;
+pub use feeding::feed;
+pub use feeding::finish;
+pub use feeding::open;
+pub use feeding::record_bytes;
+pub use feeding::record_count;

@@ -1,6 +1,6 @@
 -- What `write_entry` promises to a caller that has room: "no room" never comes, and what was written is the record.
 -- Assumes nothing.
-use mathlib.Core.Path.{_≡_, refl}
+use mathlib.Core.Path.{_≡_, refl, ap}
 use mathlib.Core.List.{List}
 use Prim.Native.Nat.{ℕ, _*_, _/_, _≤_}
 use native.Mathlib.Omega.{arith}
@@ -10,7 +10,8 @@ use Rattle.bits.specs.Front.{onto}
 use Rattle.entry.specs.declared.parse.DromEntry.{DromEntry}
 use Rattle.entry.specs.declared.parse.Decoded.{Decoded}
 use Rattle.entry.specs.declared.parse.Decoded.the-variants.{Is, Refused}
-use Rattle.entry.specs.Decode.{decodeOf}
+use Rattle.entry.specs.Adapters.{kindIn}
+use Rattle.entry.specs.Decode.{numberOf, decodeOf}
 use Rattle.record.specs.Record.{recordOf}
 use Rattle.record.specs.Write.{recordBytes, answerOf, writeAnswer, writeLeaves}
 use Rattle.record.specs.declared.write.Written.the-variants as written
@@ -49,3 +50,8 @@ answer-refused offset bs (Refused m) n a = cc
 pub answer-room : (offset : ℕ) (bs : List ℕ) (d : Decoded) → answerOf offset bs d ≡ written.NoRoom → ⊥
 answer-room offset bs (Is e) a = let z : _≡_ {A = ℕ} 0 1 = cc in omega arith
 answer-room offset bs (Refused m) a = let z : _≡_ {A = ℕ} 0 1 = cc in omega arith
+
+-- an entry's record depends on nothing but its offset, its bytes and the kind that is listed for its number
+pub record-depends : (list others : List ℕ) (offset : ℕ) (bs : List ℕ) → kindIn list (numberOf bs) ≡ kindIn others (numberOf bs)
+    → recordBytes offset bs (decodeOf (kindIn list (numberOf bs)) bs) ≡ recordBytes offset bs (decodeOf (kindIn others (numberOf bs)) bs)
+record-depends list others offset bs e = ap (λ (k : ℕ). recordBytes offset bs (decodeOf k bs)) e

@@ -39,6 +39,13 @@ withPart buffer w part = take w buffer ++ (part ++ drop (length buffer - w) (dro
 pub part-long : (buffer : List ℕ) (w : ℕ) → length (partOf buffer w) ≡ length buffer - w
 part-long buffer w = simp (length-take, length-drop) (omega arith)
 
+-- of a piece that goes to its end
+pub rest-all : (piece : List ℕ) (i : ℕ) → partOf piece i ≡ drop i piece
+rest-all piece i = take-all (length piece - i) (drop i piece) (omega (arith, length-drop i piece))
+
+pub rest-long : (piece : List ℕ) (i : ℕ) → i < length piece → (length (partOf piece i) ≡ length piece - i) × (0 < length (partOf piece i))
+rest-long piece i h = (part-long piece i, omega (arith, part-long piece i))
+
 -- bytes at the front of the part are bytes at the offset
 pub part-front : (buffer bytes : List ℕ) (w : ℕ) → w + length bytes ≤ length buffer → withPart buffer w (onto bytes (partOf buffer w)) ≡ sets buffer w bytes
 part-front buffer bytes w h =

@@ -1,5 +1,7 @@
 pub mod StepLaws
 pub mod EndLaws
+pub mod EntryBytes
+pub mod AlongLaws
 pub mod FeedLaws
 pub mod OpenLaws
 pub mod KindLaws

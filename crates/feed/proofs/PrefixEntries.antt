@@ -2,13 +2,12 @@
 -- over those bytes says (`agree`); and after a refusal all of these stay (`stays`).
 -- Assumes nothing.
 use Prim.Native.Nat.{ℕ, zero, suc, _+_, _-_, _≤_, _<_}
-use mathlib.Core.Path.{_≡_, refl, sym, ap, ap₂, subst, subst₂, _∙_}
-use mathlib.Core.List.{List, [], _∷_, _++_, flatten}
+use mathlib.Core.Path.{_≡_, refl, sym, ap, subst, subst₂, _∙_}
+use mathlib.Core.List.{List, [], _∷_, flatten}
 use mathlib.Core.Bool.{Bool, true, false}
 use native.Mathlib.Omega.{arith}
-use native.Mathlib.Numerals.{add-one}
-use lib.ListN.{length, getD, set, take, drop, length-append, length-take, take-append-drop, length-drop}
-use lib.Seq.{sets, sets-eq, length-sets, take-at, take-suc, take-length, length-take-le, getD-set-same, getD-set-other, getD-drop}
+use lib.ListN.{length, getD, take, drop, length-append, take-append-drop, length-drop}
+use lib.Seq.{sets, length-sets, take-length, length-take-le, getD-drop}
 use lib.Dec.{ltb, eqb}
 use borrow.Author.Tests.{lt-ltb, le-ltb, eq-eqb, ne-eqb, ltb-true, ltb-false, eqb-true, eqb-false}
 use Rattle.entry.specs.declared.parse.DromEntry.{DromEntry}
@@ -20,30 +19,12 @@ use Rattle.record.specs.Record.{recordOf}
 use Rattle.drom.specs.Header.{bodyStart}
 use Rattle.drom.specs.Walk.{Walked, entryOf, end, andThen}
 use Rattle.feed.specs.declared.feeding.Core.{Core}
-use Rattle.feed.specs.Run.{Run, run, withCore, withPending, counted, refused, filled, recorded, pendingAt, ended, stepOf, steps}
+use Rattle.feed.specs.Run.{Run, run, withCore, counted, refused, recorded, pendingAt, ended, stepOf, steps}
 use Rattle.feed.specs.Pieces.{Bytes}
 use Rattle.feed.specs.Prefix.{stop, soFarBy}
-use Rattle.feed.proofs.StepLaws.{next, ended-record, ended-refused, kept-more, kept-last, step-refused, step-zero, step-past, step-first, step-kept, steps-nil, steps-cons, steps-append}
-
--- ---- stores
-
-pub sets-append : (l : List ℕ) (i : ℕ) (a b : List ℕ) → sets l i (a ++ b) ≡ sets (sets l i a) (i + length a) b
-sets-append l i [] b = let e : i + 0 ≡ i = omega arith in rw e
-sets-append l i (x ∷ a) b =
-    let e : i + suc (length a) ≡ suc i + length a = omega arith in
-    rw e (sets-append (set l i x) (suc i) a b)
-
-pub take-sets : (p e : List ℕ) → length e ≤ length p → take (length e) (sets p 0 e) ≡ e
-take-sets p e h =
-    let k : 0 + length e ≤ length p = omega arith in
-    rw (sets-eq e p 0 k, take-at e (drop (0 + length e) p) (length e) refl)
-
-keep : (u v : List ℕ) (j : ℕ) → 0 < j → getD (sets u j v) 0 0 ≡ getD u 0 0
-keep u [] j z = refl
-keep u (y ∷ v) j z = keep (set u j y) v (suc j) (omega arith) ∙ getD-set-other u j 0 y 0 (λ w. omega arith)
-
-head-sets : (p : List ℕ) (x : ℕ) (e : List ℕ) → 0 < length p → getD (sets p 0 (x ∷ e)) 0 0 ≡ x
-head-sets p x e h = keep (set p 0 x) e 1 (omega arith) ∙ getD-set-same p 0 x 0 h
+use Rattle.feed.proofs.EntryBytes.{sets-append, Between, placed, entering, wholly, whole-entry}
+use Rattle.feed.proofs.EntryBytes.{whole as whole-run}
+use Rattle.feed.proofs.StepLaws.{next, ended-record, ended-refused, step-refused, step-zero, step-past, steps-nil, steps-cons, steps-append}
 
 -- ---- after a refusal nothing changes but the count of bytes
 
@@ -56,44 +37,6 @@ pub stays : (r : Run) (xs : List ℕ) → (r .core .refusal ≡ 0 → ⊥) → S
 stays r [] h = rw steps-nil (refl, refl, refl, refl, refl)
 stays r (x ∷ xs) h = rw (steps-cons, step-refused r x h) (stays (next r) xs h)
 
--- ---- bytes of an entry that is not whole yet
-
-abbrev Holding : Run → List ℕ → Run → Type 0
-Holding r ys s =
-    (s .core .refusal ≡ r .core .refusal) × (s .core .offset ≡ r .core .offset) × (s .core .count ≡ r .core .count)
-    × (s .core .written ≡ r .core .written) × (s .buffer ≡ r .buffer) × (s .core .announced ≡ r .core .announced)
-    × (s .core .taken ≡ r .core .taken + length ys) × (s .core .fill ≡ r .core .fill + length ys)
-    × (s .pending ≡ sets (r .pending) (r .core .fill) ys) × (s .header ≡ r .header) × (s .kinds ≡ r .kinds)
-
-abbrev held : Run → ℕ → Run
-held r y = withPending r (filled (counted (r .core)) (r .core .fill + 1)) (set (r .pending) (r .core .fill) y)
-
-hold-none : (r : Run) → Holding r [] r
-hold-none r = (refl, refl, refl, refl, refl, refl, omega arith, omega arith, refl, refl, refl)
-
-hold-cons : (r : Run) (y : ℕ) (ys : List ℕ) (s : Run) → Holding (held r y) ys s → Holding r (y ∷ ys) s
-hold-cons r y ys s h = (
-  h .0,
-  h .1,
-  h .2,
-  h .3,
-  h .4,
-  h .5,
-  omega (arith, h .6),
-  omega (arith, h .7),
-  h .8 ∙ ap (λ (k : ℕ). sets (set (r .pending) (r .core .fill) y) k ys) (add-one (r .core .fill)),
-  h .9,
-  h .10,
-)
-
-holds : (r : Run) (ys : List ℕ) (l : ℕ) → r .core .refusal ≡ 0 → 16 ≤ r .core .taken → bodyStart (r .header) ≤ r .core .taken → 0 < r .core .fill
-    → l ≡ getD (r .pending) 0 0 → r .core .fill + length ys < l → Holding r ys (steps r ys)
-holds r [] l h u v f e k = rw steps-nil (hold-none r)
-holds r (y ∷ ys) l h u v f e k =
-    let d : l ≡ getD (set (r .pending) (r .core .fill) y) 0 0 = e ∙ sym (getD-set-other (r .pending) (r .core .fill) 0 y 0 (λ w. omega arith)) in
-    rw (steps-cons, step-kept r y h u v (λ w. omega arith), kept-more (next r) y l d (omega arith))
-    (hold-cons r y ys (steps (held r y) ys) (holds (held r y) ys l h (omega arith) (omega arith) (omega arith) d (omega arith)))
-
 -- between two entries
 pub record Rest (r : Run) : Type 0 where
   pub going : r .core .refusal ≡ 0
@@ -103,14 +46,8 @@ pub record Rest (r : Run) : Type 0 where
   pub past : bodyStart (r .header) ≤ r .core .taken
   pub long : length (r .pending) ≡ 255
 
-entering : (r : Run) (l : ℕ) (t : List ℕ) (m : ℕ) → Rest r → l ≤ r .core .announced - r .core .taken → m < l → m ≤ length (l ∷ t)
-    → Holding r (take m (l ∷ t)) (steps r (take m (l ∷ t)))
-entering r l t zero q a k n = rw steps-nil (hold-none r)
-entering r l t (suc m) q a k n =
-    let d : l ≡ getD (set (r .pending) (r .core .fill) l) 0 0 = rw (q .empty) (sym (getD-set-same (r .pending) 0 l 0 (omega (arith, q .long)))) in
-    rw (steps-cons, step-first r l (q .going) (q .late) (q .past) (q .empty) (λ w. omega arith) a, kept-more (next r) l l d (omega (arith, q .empty)))
-    (hold-cons r l (take m t) (steps (held r l) (take m t))
-    (holds (held r l) (take m t) l (q .going) (omega (arith, q .late)) (omega (arith, q .past)) (omega arith) d (omega (arith, length-take m t, q .empty))))
+between : {r : Run} → Rest r → Between r
+between q = record { going = q .going; empty = q .empty; late = q .late; past = q .past; long = q .long }
 
 -- ---- a whole entry
 
@@ -123,19 +60,6 @@ pub record Entered (r : Run) (e : List ℕ) (d : DromEntry) (s : Run) : Type 0 w
   pub kinds : s .kinds ≡ r .kinds
   pub taken : s .core .taken ≡ r .core .taken + length e
   pub announced : s .core .announced ≡ r .core .announced
-
--- the byte that makes an entry whole, at whichever place
-finish : (r : Run) (y l : ℕ) → r .core .refusal ≡ 0 → 16 ≤ r .core .taken → bodyStart (r .header) ≤ r .core .taken → (r .core .fill ≡ 0 → y ≡ l) → 0 < l
-    → l ≤ r .core .fill + 1 → l ≤ r .core .announced - (r .core .taken - r .core .fill) → l ≡ getD (set (r .pending) (r .core .fill) y) 0 0
-    → stepOf r y ≡ ended (withPending r (counted (r .core)) (set (r .pending) (r .core .fill) y))
-finish r y l h u v f p k a d = go (eqb (r .core .fill) 0) refl
-  where
-    go : (t : Bool) → eqb (r .core .fill) 0 ≡ t → stepOf r y ≡ ended (withPending r (counted (r .core)) (set (r .pending) (r .core .fill) y))
-    go true e =
-        let z = eqb-true (r .core .fill) 0 e in
-        let q = f z in
-        step-first r y h u v z (λ w. omega arith) (omega arith) ∙ kept-last (next r) y l d k
-    go false e = step-kept r y h u v (eqb-false (r .core .fill) 0 e) ∙ kept-last (next r) y l d k
 
 -- what the last byte of an entry leaves: c and p are the core and the pending bytes as the entry is whole
 abbrev Whole-at : Run → List ℕ → Core → List ℕ → Type 0
@@ -195,95 +119,26 @@ pub record Ended (r : Run) (e : List ℕ) : Type 0 where
 
 ending : (r : Run) (l : ℕ) (t : List ℕ) → Rest r → l < 256 → 0 < l → l ≤ r .core .announced - r .core .taken → l ≤ length (l ∷ t) → Ended r (take l (l ∷ t))
 ending r l t q b z a n =
+    let w = between q in
+    let size : length (take l (l ∷ t)) ≡ l = length-take-le l (l ∷ t) n in
     record {
-      core = counted (s .core);
-      bytes = p;
-      is = wholly;
+      core = whole-run r l t w z b a n .core;
+      bytes = whole-run r l t w z b a n .pending;
+      is = wholly r l t w z b a n;
       all = (
-        hold .0 ∙ q .going,
-        hold .1 ∙ q .nowhere,
-        hold .2,
-        hold .3,
-        hold .5,
-        omega (arith, hold .6, ylen, elen),
-        plen,
-        kept-all,
-        omega (arith, hold .6, q .late),
-        omega (arith, hold .6, q .past),
-        omega (arith, hold .7, ylen, elen, q .empty),
+        q .going,
+        q .nowhere,
+        refl,
+        refl,
+        refl,
+        ap (λ (k : ℕ). r .core .taken + k) (sym size),
+        length-sets (r .pending) 0 (take l (l ∷ t)) ∙ q .long,
+        whole-entry r l t w z b a n,
+        omega (arith, q .late),
+        omega (arith, q .past),
+        omega (arith, size),
       );
     }
-  where
-    m : ℕ
-    m = l - 1
-
-    xs : List ℕ
-    xs = l ∷ t
-
-    ys : List ℕ
-    ys = take m xs
-
-    y : ℕ
-    y = getD xs m 0
-
-    lm : l ≡ suc m
-    lm = omega arith
-
-    e : List ℕ
-    e = take l xs
-
-    cons : e ≡ l ∷ take m t
-    cons = ap (λ (k : ℕ). take k xs) lm
-
-    elen : length e ≡ l
-    elen = length-take-le l xs n
-
-    snoc : e ≡ ys ++ (y ∷ [])
-    snoc = ap (λ (k : ℕ). take k xs) lm ∙ take-suc xs m 0 (omega arith)
-
-    s : Run
-    s = steps r ys
-
-    hold : Holding r ys s
-    hold = entering r l t m q a (omega arith) (omega arith)
-
-    ylen : length ys ≡ m
-    ylen = length-take-le m xs (omega arith)
-
-    p : List ℕ
-    p = set (s .pending) (s .core .fill) y
-
-    pend : p ≡ sets (r .pending) 0 e
-    pend =
-        ap (λ (k : ℕ). set (s .pending) k y) (hold .7)
-        ∙ ap (λ (v : List ℕ). set v (r .core .fill + length ys) y) (hold .8)
-        ∙ sym (sets-append (r .pending) (r .core .fill) ys (y ∷ []))
-        ∙ ap (λ (v : List ℕ). sets (r .pending) (r .core .fill) v) (sym snoc)
-        ∙ ap (λ (k : ℕ). sets (r .pending) k e) (q .empty)
-
-    plen : length p ≡ 255
-    plen = ap length pend ∙ length-sets (r .pending) 0 e ∙ q .long
-
-    kept-all : take (s .core .fill + 1) p ≡ e
-    kept-all =
-        let k : s .core .fill + 1 ≡ length e = omega (arith, hold .7, ylen, elen, q .empty) in
-        ap (λ (j : ℕ). take j p) k ∙ ap (λ (v : List ℕ). take (length e) v) pend ∙ take-sets (r .pending) e (omega (arith, elen, q .long))
-
-    d : l ≡ getD p 0 0
-    d = sym (ap (λ (v : List ℕ). getD v 0 0) pend ∙ ap (λ (v : List ℕ). getD (sets (r .pending) 0 v) 0 0) cons ∙ head-sets (r .pending) l (take m t) (omega (arith, q .long)))
-
-    one : s .core .fill ≡ 0 → y ≡ l
-    one w = let k : m ≡ 0 = omega (arith, hold .7, ylen) in ap (λ (j : ℕ). getD xs j 0) k
-
-    past : bodyStart (s .header) ≤ s .core .taken
-    past = subst (λ (v : List ℕ). bodyStart v ≤ s .core .taken) (sym (hold .9)) (omega (arith, hold .6, q .past))
-
-    wholly : steps r e ≡ ended (run (counted (s .core)) (r .header) p (r .kinds) (r .buffer))
-    wholly =
-        ap (steps r) snoc ∙ steps-append r ys (y ∷ []) ∙ steps-cons s y [] ∙ steps-nil (stepOf s y)
-        ∙ finish s y l (hold .0 ∙ q .going) (omega (arith, hold .6, q .late)) past one z (omega (arith, hold .7, ylen)) (omega (arith, hold .7, hold .6, hold .5, ylen)) d
-        ∙ ap (λ (v : List ℕ). ended (run (counted (s .core)) v p (s .kinds) (s .buffer))) (hold .9)
-        ∙ ap₂ (λ (k v : List ℕ). ended (run (counted (s .core)) (r .header) p k v)) (hold .10) (hold .4)
 
 -- ---- the whole walk
 
@@ -385,11 +240,12 @@ module _ (k : ℕ) (ih : (r : Run) (xs : List ℕ) → Agree k r xs) (r : Run) (
   part-turn : (l ≡ 0 → ⊥) → l ≤ r .core .announced - r .core .taken → length (l ∷ t) < l → Goal
   unfolding Goal
   part-turn z p n =
-      let v : Holding r (l ∷ t) (steps r (l ∷ t)) =
-      subst (λ (u : List ℕ). Holding r u (steps r u)) (take-length (l ∷ t)) (entering r l t (length (l ∷ t)) q p n (omega arith))
+      let e : steps r (l ∷ t) ≡ placed r (r .core .taken + length (l ∷ t)) (length (l ∷ t)) (sets (r .pending) 0 (l ∷ t)) =
+      subst (λ (u : List ℕ). steps r u ≡ placed r (r .core .taken + length (l ∷ t)) (length (l ∷ t)) (sets (r .pending) 0 u)) (take-length (l ∷ t))
+      (entering r l t (length (l ∷ t)) (between q) p n (omega arith))
       in
-      rw (so-part (kindsIn (r .kinds)) k (r .core .taken) (r .core .announced - r .core .taken) l t z p n)
-      (quiet r (steps r (l ∷ t)) q (v .0, v .1, v .2, v .3, v .4))
+      rw (so-part (kindsIn (r .kinds)) k (r .core .taken) (r .core .announced - r .core .taken) l t z p n, e)
+      (quiet r (placed r (r .core .taken + length (l ∷ t)) (length (l ∷ t)) (sets (r .pending) 0 (l ∷ t))) q (refl, refl, refl, refl, refl))
 
   stop-turn : (n : ℕ) → (n ≡ 0 → ⊥) → stepOf r l ≡ withCore r (refused (counted (r .core)) n (r .core .taken)) → Agrees r (stop n (r .core .taken)) (steps r (l ∷ t))
   stop-turn n z e =

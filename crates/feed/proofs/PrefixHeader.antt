@@ -21,7 +21,8 @@ use Rattle.feed.specs.Pieces.{Bytes}
 use Rattle.feed.specs.Prefix.{stop, soFarBy, headerNumber, prefixOf}
 use Rattle.feed.proofs.StepLaws.{next, ended-cases, kept-cases, step-cases, step-header, step-judge, step-skip, judged-is, steps-nil, steps-cons, steps-append}
 use Rattle.feed.proofs.MoveLaws.{step-moves}
-use Rattle.feed.proofs.PrefixEntries.{sets-append, take-sets, stays, Rest, kindsIn, Agrees, plain, agree}
+use Rattle.feed.proofs.EntryBytes.{sets-append, take-sets}
+use Rattle.feed.proofs.PrefixEntries.{stays, Rest, kindsIn, Agrees, plain, agree}
 
 -- ---- before the body
 

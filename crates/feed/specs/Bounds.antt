@@ -1,11 +1,11 @@
 -- The bounds of a run as facts: those that `inBounds` tests, and those that the types and the buffer lent give.
 -- Assumes nothing.
 use mathlib.Core.Path.{_≡_}
-use Prim.Native.Nat.{ℕ, _-_, _*_, _^_, _≤_, _<_}
+use Prim.Native.Nat.{ℕ, _+_, _-_, _*_, _^_, _≤_, _<_}
 use mathlib.Core.List.{List}
-use lib.ListN.{length, getD}
+use lib.ListN.{length, getD, take}
 use Rattle.feed.specs.declared.feeding.Core.{Core}
-use Rattle.feed.specs.Run.{Run}
+use Rattle.feed.specs.Run.{Run, steps}
 
 -- while nothing is refused
 pub record Live (c : Core) : Type 0 where
@@ -28,3 +28,9 @@ pub record Good (r : Run) : Type 0 where
 -- the same run, whatever the header: an entry's bytes do not touch it
 abbrev pub AnyHeader : (List ℕ → Run) → (List ℕ → Run) → Type 0
 AnyHeader f g = (h : List ℕ) → f h ≡ g h
+
+-- a run leads to another by as many bytes at the front of a piece as the two differ in what was taken
+pub record Through (r : Run) (piece : List ℕ) (r′ : Run) : Type 0 where
+  pub same : r′ ≡ steps r (take (r′ .core .taken - r .core .taken) piece)
+  pub up : r .core .taken ≤ r′ .core .taken
+  pub within : r′ .core .taken ≤ r .core .taken + length piece

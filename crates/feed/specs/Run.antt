@@ -85,6 +85,20 @@ recorded c n =
       written = c .written + n;
     }
 
+-- whole entries were taken at once: i bytes, and so many records and record bytes in all
+abbrev pub passed : Core → ℕ → ℕ → ℕ → Core
+passed c i count written =
+    record {
+      announced = c .announced;
+      taken = c .taken + i;
+      refusal = c .refusal;
+      offset = c .offset;
+      register = c .register;
+      fill = c .fill;
+      count = count;
+      written = written;
+    }
+
 -- The 16 bytes of a header are in, of a DROM of the announced size: 2, then 3, or nothing is refused. Their offset is 0.
 unfoldable pub judged : Core → List ℕ → Core
 judged c h =

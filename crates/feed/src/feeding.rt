@@ -6,8 +6,8 @@ ghost use lib.ListN.{length, getD, replicate};
 ghost use Rattle.entry.specs.Decode.{numberOf};
 ghost use Rattle.drom.specs.Report.{refusedReport};
 ghost use Rattle.feed.specs.Kinds.{tableOf};
-ghost use Rattle.feed.specs.Run.{run, judged, ended, kept, stepOf, steps};
-ghost use Rattle.feed.specs.Bounds.{Good, AnyHeader};
+ghost use Rattle.feed.specs.Run.{run, passed, judged, ended, kept, stepOf, steps};
+ghost use Rattle.feed.specs.Bounds.{Good, AnyHeader, Through};
 ghost use Rattle.feed.specs.Feed.{fresh, openOf, inBounds, registerAfter, runIn, stateAfter, both, feedOf, told, finishOf};
 use drom::Report;
 use drom::header::body_start;
@@ -219,7 +219,97 @@ fn register_after(register: u32, taken: usize, piece: &[u8]) -> u32
     util::crc32_more(register, &piece[skipped..])
 }
 
-// The loop over a piece. A byte in the middle of an entry, which most are, is kept without a call.
+// The length of the entry at a place of a piece, where the piece has all of it, or 0.
+fn whole_at(piece: &[u8], i: usize) -> usize
+    requires { ⌜ i < length (now piece) ⌝ }
+    ensures { λ r. ⌜ (0 < r → (r ≡ getD (now (piece .entry)) i 0) × (r < 256) × (i + r ≤ length (now (piece .entry)))) ⌝ }
+{
+    let l = wide(piece[i]);
+    if piece.len() - i < l { 0 } else { l }
+}
+
+fn passed_to(core: Core, i: usize, count: usize, written: usize) -> Core
+    requires { ⌜ core .taken + i ≤ core .announced ⌝ }
+    ensures { λ r. ⌜ r ≡ passed core i count written ⌝ }
+{
+    let mut c = core;
+    c.taken = core.taken + i;
+    c.count = count;
+    c.written = written;
+    c
+}
+
+// The entries that a piece has whole at its front, up to one that is refused, without a step for each byte.
+fn take_entries(
+    core: Core,
+    header: &[u8; 16],
+    piece: &[u8],
+    pending: &mut [u8; 255],
+    kinds: &[u8; 64],
+    records: &mut [u8],
+) -> Core
+    requires { ⌜ Good (run core (now header) (now pending) (now kinds) (now records)) × (core .refusal ≡ 0) × (core .fill ≡ 0) × (length (now piece) ≤ core .announced - core .taken) ⌝ }
+    ensures { λ r. ⌜ Through (run core (now (header .entry)) (now (pending .entry)) (now (kinds .entry)) (now (records .entry))) (now (piece .entry)) (run r (now (header .entry)) (now (pending .exit)) (now (kinds .entry)) (now (records .exit))) ⌝ }
+{
+    let mut i: usize = 0;
+    let mut count = core.count;
+    let mut written = core.written;
+    if core.taken < 16 {
+        return core;
+    }
+    if core.taken < body_start(header) {
+        return core;
+    }
+    while i < piece.len() {
+        let l = whole_at(piece, i);
+        if l == 0 {
+            return passed_to(core, i, count, written);
+        }
+        let end = i + l;
+        let bytes = &piece[i..end];
+        let kind = kind_for(kinds, bytes);
+        match record::write_entry(bytes, kind, core.taken + i, &mut records[written..]) {
+            Written::Record(n) => {
+                bits::put_all(bytes, pending);
+                i = end;
+                count += 1;
+                written += n;
+            }
+            Written::Refused(_) => {
+                return passed_to(core, i, count, written);
+            }
+            Written::NoRoom => {
+                return passed_to(core, i, count, written);
+            }
+        }
+    }
+    passed_to(core, i, count, written)
+}
+
+// Takes in some of a piece: the entries that it has whole at its front or, where there is none, a byte.
+fn take_some(
+    core: Core,
+    header: &mut [u8; 16],
+    piece: &[u8],
+    pending: &mut [u8; 255],
+    kinds: &[u8; 64],
+    records: &mut [u8],
+) -> Core
+    requires { ⌜ Good (run core (now header) (now pending) (now kinds) (now records)) × (core .refusal ≡ 0) × (0 < length (now piece)) × (length (now piece) ≤ core .announced - core .taken) ⌝ }
+    ensures { λ r. ⌜ Through (run core (now (header .entry)) (now (pending .entry)) (now (kinds .entry)) (now (records .entry))) (now (piece .entry)) (run r (now (header .exit)) (now (pending .exit)) (now (kinds .entry)) (now (records .exit))) × (core .taken < r .taken) ⌝ }
+{
+    let b = piece[0];
+    if core.fill != 0 {
+        return step(core, b, header, pending, kinds, records);
+    }
+    let c = take_entries(core, header, piece, pending, kinds, records);
+    if core.taken < c.taken {
+        return c;
+    }
+    step(c, b, header, pending, kinds, records)
+}
+
+// The loop over a piece. A byte in the middle of an entry is kept without a call.
 fn take_in(state: State, piece: &[u8], records: &mut [u8]) -> State
     requires { ⌜ (inBounds (state .core) ≡ true) × (16368 ≤ length (now records)) × (length (now piece) ≤ state .core .announced - state .core .taken) ⌝ }
     ensures state { λ r. ⌜ r ≡ stateAfter (steps (runIn state (now (records .entry))) (now (piece .entry))) (registerAfter (state .core .register) (state .core .taken) (now (piece .entry))) ⌝ }
@@ -233,23 +323,28 @@ fn take_in(state: State, piece: &[u8], records: &mut [u8]) -> State
     let mut i: usize = 0;
     while i < piece.len() {
         let b = piece[i];
-        i += 1;
         let at = core.taken;
         let fill = core.fill;
-        if core.refusal == 0 {
-            if fill != 0 {
-                if fill + 1 < wide(pending[0]) {
-                    // Where something is pending the header is in, and a body starts at 22 or before.
-                    if 21 < at {
-                        pending[fill] = b;
-                        core.taken = at + 1;
-                        core.fill = fill + 1;
-                        continue;
-                    }
+        if core.refusal != 0 {
+            core.taken = at + (piece.len() - i);
+            i = piece.len();
+            continue;
+        }
+        if fill != 0 {
+            if fill + 1 < wide(pending[0]) {
+                // Where something is pending the header is in, and a body starts at 22 or before.
+                if 21 < at {
+                    pending[fill] = b;
+                    core.taken = at + 1;
+                    core.fill = fill + 1;
+                    i += 1;
+                    continue;
                 }
             }
         }
-        core = step(core, b, &mut header, &mut pending, &kinds, records);
+        let c = take_some(core, &mut header, &piece[i..], &mut pending, &kinds, records);
+        i += c.taken - at;
+        core = c;
     }
     core.register = register;
     State {

@@ -3,13 +3,17 @@
 use Prim.Native.Nat.{ℕ, _-_, _%_, _≤_}
 use mathlib.Core.Path.{_≡_, refl, ap, _∙_}
 use mathlib.Core.List.{List}
+use native.Mathlib.Omega.{arith}
 use lib.ListN.{length, drop, length-drop}
 use Rattle.entry.specs.declared.parse.DromEntry.{DromEntry}
+use Rattle.entry.specs.declared.parse.DromEntry.the-variants.{Unknown}
 use Rattle.entry.specs.declared.parse.Decoded.the-variants.{Is}
 use Rattle.entry.specs.Rows.{Row, unknown, adapter, unused, displayPort, lane, pcieUp, pcieDown, generic, asciiVendor, asciiModel, tmu, product, serial, usb3Map, utf16Vendor, utf16Model, dataPath, dptx, embeddedLink, least, utf16From, textIn, rowOf}
 use Rattle.entry.specs.Decode.{valuesOf, textRefusal, rowEntry, decodeOf}
-use Rattle.entry.proofs.DecodeLaws.{decoded-values}
-use Rattle.record.specs.Record.{rowIs}
+use Rattle.entry.proofs.DecodeLaws.{decoded-values, row-plain, row-unknown}
+use Rattle.entry.proofs.DecodeLaws as decode-laws
+use Rattle.bits.specs.Fields.{pack}
+use Rattle.record.specs.Record.{rowIs, headOf, payloadOf, recordOf}
 use Rattle.record.specs.Lengths.{payloadLength}
 use Rattle.record.proofs.TextLaws.{text-even}
 
@@ -59,3 +63,14 @@ module _ (bs : List ℕ) {e : DromEntry} (d : rowEntry (rowIs e) bs ≡ Is e) wh
   -- of a UTF-16 text from byte i on
   pub even : (i : ℕ) → textIn (rowIs e) ≡ utf16From i → (length bs - i) % 2 ≡ 0
   even i t = rw length-drop at (text-even (drop i bs) (rw t at accepted))
+
+-- ---- an entry of one byte
+
+module _ (bs : List ℕ) (one : length bs ≡ 1) where
+  pub decode-one : (kind : ℕ) → decodeOf kind bs ≡ Is Unknown
+  decode-one kind = decode-laws.decode-row kind bs unknown (row-unknown kind bs (omega arith)) ∙ row-plain unknown bs refl (omega arith)
+
+  -- its record is a head, and no more
+  pub record-one : (offset : ℕ) → recordOf offset bs Unknown ≡ pack (headOf 0 offset 1)
+  unfolding recordOf payloadOf
+  record-one offset = ap (λ (L : ℕ). pack (headOf 0 offset L)) one

@@ -379,6 +379,10 @@ pub fn write_entry(bytes: &[u8], kind: u8, offset: usize, out: &mut [u8]) -> Wri
     if out.len() / 4 < bytes.len() {
         return Written::NoRoom;
     }
+    // An entry of one byte is a head alone; a body may have thousands of them.
+    if bytes.len() == 1 {
+        return Written::Record(put_head(0, offset, 1, out));
+    }
     match entry::decode(bytes, kind) {
         Decoded::Is(e) => Written::Record(put_record(e, offset, bytes, out)),
         Decoded::Refused(n) => Written::Refused(n),

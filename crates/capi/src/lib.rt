@@ -8,6 +8,12 @@ ghost use Rattle.util.specs.Utf8.{isUtf8};
 ghost use Rattle.capi.specs.Numbers.{utf16Number};
 use util::Utf16Ascii;
 
+mod feeding;
+mod listing;
+mod numbers;
+mod parts;
+mod reading;
+
 #[no_mangle]
 pub extern "C" fn drom_crc8(bytes: &[u8]) -> u8
     ensures { λ r. ⌜ r ≡ crcOf8 (now (bytes .entry)) ⌝ }

@@ -1,6 +1,7 @@
 pub mod Joined
 pub mod WalkLaws
 pub mod HeaderLaws
+pub mod PartLaws
 pub mod ReportLaws
 pub mod WalkTurns
 pub mod Demand1

@@ -4,17 +4,17 @@ use mathlib.Core.Path.{_≡_, refl, sym, ap, _∙_}
 use mathlib.Core.Bool.{Bool, true, false, cond}
 use mathlib.Core.List.{List, [], _∷_}
 use mathlib.Core.Logic.{_⊎_, inl, inr, ⊎-elim}
-use Prim.Native.Nat.{ℕ, zero, suc, _+_, _-_, _<_, _≤_}
+use Prim.Native.Nat.{ℕ, zero, suc, _+_, _<_, _≤_}
 use native.Mathlib.Nat.{le-refl, not-suc-le-zero}
 use native.Mathlib.Omega.{arith}
-use borrow.Author.Tests.{eqb-false, ltb-false, eq-eqb, ne-eqb, lt-ltb, le-ltb}
+use borrow.Author.Tests.{eqb-false, ltb-true, ltb-false, eq-eqb, ne-eqb, lt-ltb, le-ltb}
 use lib.Dec.{ltb, eqb}
 use lib.ListN.{length, take, drop, getD, length-drop, drop-of-length-le}
 use lib.Seq.{drop-cons, drop-drop}
 use Rattle.entry.specs.declared.parse.DromEntry.{DromEntry}
 use Rattle.entry.specs.declared.parse.Decoded.{Decoded}
 use Rattle.entry.specs.declared.parse.Decoded.the-variants.{Is, Refused}
-use Rattle.drom.specs.Walk.{Walked, entryOf, frontOf, isEntry, end, andThen, walkBy, walkOf}
+use Rattle.drom.specs.Walk.{Walked, entryOf, frontOf, pieceAt, frontAt, isEntry, end, andThen, walkBy, walkOf}
 
 -- what an entry at the front says of its length
 pub front-inside : (kinds : ℕ → ℕ) (L : ℕ) (bs : List ℕ) (e : DromEntry) → frontOf kinds L bs ≡ Is e → (0 < L) × (L ≤ length bs) × (entryOf kinds (take L bs) ≡ Is e)
@@ -102,37 +102,46 @@ module _ (kinds : ℕ → ℕ) where
 
   -- ---- stepping over entries, where r is the end of the one at an index, or 0
 
-  module _ (drom : List ℕ) (at r : ℕ) (h : at < length drom)
-      (e : r ≡ cond (isEntry (frontOf kinds (getD drom at 0) (drop at drom))) (at + getD drom at 0) 0) where
+  module _ (drom : List ℕ) (at r : ℕ) where
     pub record Passes : Type 0 where
       pub on : at < r
       pub inside : r ≤ length drom
-      pub entries : walkOf kinds at (drop at drom) .entries ≡ take (r - at) (drop at drom) ∷ walkOf kinds r (drop r drom) .entries
+      pub ends : r ≡ at + getD drom at 0
+      pub entries : walkOf kinds at (drop at drom) .entries ≡ pieceAt drom at ∷ walkOf kinds r (drop r drom) .entries
 
-    steps : (d : Decoded) → frontOf kinds (getD drom at 0) (drop at drom) ≡ d
-        → ((r ≡ 0) × (walkOf kinds at (drop at drom) .entries ≡ [])) ⊎ Passes
-    steps (Is x) f =
-        let in-front = front-inside kinds (getD drom at 0) (drop at drom) x f in
-        let end-is : r ≡ at + getD drom at 0 = e ∙ rw f in
-        let long : getD drom at 0 ≡ r - at = omega arith in
-        inr (record {
-          on = omega arith;
-          inside = omega (arith, length-drop at drom, in-front .1);
-          entries = ap (λ (w : Walked). w .entries) (walk-at drom at h) ∙ rw f (rw (← long, ← end-is));
-        })
-    steps (Refused n) f = inl (e ∙ rw f, ap (λ (w : Walked). w .entries) (walk-at drom at h) ∙ rw f)
+    module _ (h : at < length drom) (e : r ≡ cond (isEntry (frontAt kinds drom at)) (at + getD drom at 0) 0) where
+      steps : (d : Decoded) → frontAt kinds drom at ≡ d → ((r ≡ 0) × (walkOf kinds at (drop at drom) .entries ≡ [])) ⊎ Passes
+      steps (Is x) f =
+          let in-front = front-inside kinds (getD drom at 0) (drop at drom) x f in
+          let end-is : r ≡ at + getD drom at 0 = e ∙ rw f in
+          inr (record {
+            on = omega arith;
+            inside = omega (arith, length-drop at drom, in-front .1);
+            ends = end-is;
+            entries = ap (λ (w : Walked). w .entries) (walk-at drom at h) ∙ rw f (rw (← end-is));
+          })
+      steps (Refused n) f = inl (e ∙ rw f, ap (λ (w : Walked). w .entries) (walk-at drom at h) ∙ rw f)
 
-    step : ((r ≡ 0) × (walkOf kinds at (drop at drom) .entries ≡ [])) ⊎ Passes
-    step = steps (frontOf kinds (getD drom at 0) (drop at drom)) refl
+      step : ((r ≡ 0) × (walkOf kinds at (drop at drom) .entries ≡ [])) ⊎ Passes
+      step = steps (frontAt kinds drom at) refl
 
-    pub step-none : r ≡ 0 → walkOf kinds at (drop at drom) .entries ≡ []
-    step-none z = ⊎-elim (λ p. p .1) (λ p. absurd (omega (arith, p .on))) step
+      pub step-none : r ≡ 0 → walkOf kinds at (drop at drom) .entries ≡ []
+      step-none z = ⊎-elim (λ p. p .1) (λ p. absurd (omega (arith, p .on))) step
 
-    pub step-on : (r ≡ 0 → ⊥) → Passes
-    step-on some = ⊎-elim (λ p. absurd (some (p .0))) (λ p. p) step
+      pub step-on : (r ≡ 0 → ⊥) → Passes
+      step-on some = ⊎-elim (λ p. absurd (some (p .0))) (λ p. p) step
 
--- ---- lists of entries
+  -- at an index there is no entry, or a step over one
+  abbrev pub Stepped : List ℕ → ℕ → Type 0
+  Stepped drom at = (walkOf kinds at (drop at drom) .entries ≡ []) ⊎ Passes drom at (at + getD drom at 0)
 
-pub getD-next : (x : List ℕ) (xs : List (List ℕ)) (n : ℕ) → (n ≡ 0 → ⊥) → getD (x ∷ xs) n [] ≡ getD xs (n - 1) []
-getD-next x xs zero h = absurd (h refl)
-getD-next x xs (suc n) h = let e : suc n - 1 ≡ n = omega arith in ap (λ (k : ℕ). getD xs k []) (sym e)
+  pub stepped : (drom : List ℕ) (at : ℕ) → Stepped drom at
+  stepped drom at = go (ltb at (length drom)) refl
+    where
+      at-byte : at < length drom → (d : Decoded) → frontAt kinds drom at ≡ d → Stepped drom at
+      at-byte h (Is x) f = inr (step-on drom at (at + getD drom at 0) h (rw f) (λ z. absurd (omega (arith, front-inside kinds (getD drom at 0) (drop at drom) x f .0))))
+      at-byte h (Refused n) f = inl (step-none drom at 0 h (rw f) refl)
+
+      go : (b : Bool) → ltb at (length drom) ≡ b → Stepped drom at
+      go true e = at-byte (ltb-true at (length drom) e) (frontAt kinds drom at) refl
+      go false e = inl (ap (λ (w : Walked). w .entries) (walk-past drom at (ltb-false at (length drom) e)))

@@ -8,6 +8,7 @@ pub use header::HeaderValues;
 pub use header::header_values;
 pub use parts::body;
 pub use parts::bytes;
+pub use parts::entry_offset;
 pub use parts::head;
 pub use parts::nth_entry;
 pub use reader::Report;

@@ -7,7 +7,7 @@ ghost use Prim.Native.Nat.{_+_, _<_, _≤_};
 ghost use lib.ListN.{length, getD, drop};
 ghost use Rattle.entry.specs.Adapters.{kindIn};
 ghost use Rattle.drom.specs.Walk.{frontAt, isEntry, walkOf};
-ghost use Rattle.drom.specs.Parts.{headerPart, bodyPart, wholePart, entryPart};
+ghost use Rattle.drom.specs.Parts.{headerPart, bodyPart, wholePart, entryPart, offsetIn, entryOffset};
 use super::header::body_start;
 use super::header::is_accepted;
 use super::walk::listed_kind;
@@ -70,37 +70,49 @@ fn entry_end(list: &[u8], drom: &[u8], at: usize) -> usize
     }
 }
 
-// The n-th entry from an offset on.
-fn entry_from<'a>(list: &[u8], drom: &'a [u8], start: usize, n: usize) -> &'a [u8]
+// Where the n-th entry from an offset on stands, or 0 where there is none.
+fn offset_from(list: &[u8], drom: &[u8], start: usize, n: usize) -> usize
     requires { ⌜ start ≤ length (now drom) ⌝ }
-    ensures { λ r. ⌜ now r ≡ getD (walkOf (kindIn (now (list .entry))) start (drop start (now (drom .entry))) .entries) n [] ⌝ }
+    ensures { λ r. ⌜ r ≡ offsetIn start (walkOf (kindIn (now (list .entry))) start (drop start (now (drom .entry))) .entries) n ⌝ }
 {
     let mut at = start;
     let mut left = n;
     while at < drom.len() {
         let end = entry_end(list, drom, at);
         if end == 0 {
-            return none(drom);
+            return 0;
         }
         if left == 0 {
-            return &drom[at..end];
+            return at;
         }
         left -= 1;
         at = end;
     }
-    none(drom)
+    0
+}
+
+// Where the n-th accepted entry stands, counted from 0, or 0 where there is none.
+pub fn entry_offset(list: &[u8], drom: &[u8], n: usize) -> usize
+    ensures { λ r. ⌜ r ≡ entryOffset (now (list .entry)) (now (drom .entry)) n ⌝ }
+{
+    if list.len() % 2 == 1 {
+        return 0;
+    }
+    if is_accepted(drom) {
+        let start = body_start(drom);
+        return offset_from(list, drom, start, n);
+    }
+    0
 }
 
 // The n-th accepted entry, counted from 0. An entry before a refused one can be had.
 pub fn nth_entry<'a>(list: &[u8], drom: &'a [u8], n: usize) -> &'a [u8]
     ensures { λ r. ⌜ now r ≡ entryPart (now (list .entry)) (now (drom .entry)) n ⌝ }
 {
-    if list.len() % 2 == 1 {
+    let at = entry_offset(list, drom, n);
+    if at == 0 {
         return none(drom);
     }
-    if is_accepted(drom) {
-        let start = body_start(drom);
-        return entry_from(list, drom, start, n);
-    }
-    none(drom)
+    let end = at + drom[at] as usize;
+    &drom[at..end]
 }

@@ -6,13 +6,14 @@ ghost use Rattle.feed.specs.Kinds.{tableOf};
 ghost use Rattle.listed.specs.Pairs.{pairsOf, pairsFrom, withKind};
 use drom::Report;
 
+#[repr(C)]
 pub struct Adapter {
     pub number: u8,
     pub kind: u8,
 }
 
 // The kind of each number below 64.
-struct Kinds {
+pub struct Kinds {
     of: [u8; 64],
 }
 
@@ -34,7 +35,7 @@ fn with_kind(kinds: Kinds, number: u8, kind: u8) -> Kinds
 }
 
 // From the last adapter to the first, so that the first of a number stays.
-fn kinds_of(list: &[Adapter]) -> Kinds
+pub fn kinds_of(list: &[Adapter]) -> Kinds
     ensures { λ r. ⌜ r .of ≡ tableOf (pairsOf (now (list .entry))) ⌝ }
 {
     let mut kinds = no_kinds();
@@ -47,7 +48,7 @@ fn kinds_of(list: &[Adapter]) -> Kinds
 }
 
 // The kinds as a list of bytes: 0, its kind, 1, its kind, .. 63, its kind.
-fn pairs_of(kinds: Kinds) -> [u8; 128]
+pub fn pairs_of(kinds: Kinds) -> [u8; 128]
     ensures { λ r. ⌜ r ≡ pairsFrom 0 (kinds .of) ⌝ }
 {
     let mut pairs = [0u8; 128];

@@ -1,53 +1,70 @@
-use mathlib.Core.Path.{sym, ap, _∙_}
-use mathlib.Core.List.{[]}
-use Prim.Native.Nat.{ℕ}
+-- `drom::parts::nth_entry` meets its contract: where there is an entry, as many bytes as the first says stand at its offset.
+-- Assumes nothing.
+use mathlib.Core.Path.{_≡_, sym, ap, _∙_}
+use Prim.Native.Nat.{ℕ, _+_, _-_}
 use native.Mathlib.Omega.{arith}
-use borrow.Author.Tests.{eq-eqb, ne-eqb, eqb-true}
 use denote.Ref.{now}
-use lib.ListN.{getD, drop}
-use Rattle.entry.specs.Adapters.{kindIn}
-use Rattle.drom.specs.Header.{headerRefusal}
-use Rattle.drom.specs.Walk.{walkOf}
-use Rattle.drom.proofs.HeaderLaws.{sizes}
+use lib.ListN.{getD, take, drop}
+use Rattle.drom.specs.Parts.{entryPart}
+use Rattle.drom.proofs.PartLaws.{Stands, entry-none, entry-stands}
 use borrow.Author.Needs.{needs}
 use Rattle.drom.proofs.parts.nth_entry.Statement.{statement}
 use Rattle.drom.proofs.parts.nth_entry.Tie as tie
+
+entry-offset-requires : tie.Need-entry-offset-requires
+entry-offset-requires c κs = search needs
 
 none-requires : tie.Need-none-requires
 none-requires c κs = search needs
 
 returns : tie.Need-returns
-returns c = rw (eq-eqb _ _ (c .before .if1 .taken)) (c .none .ensures)
+returns c =
+    let a = c .before .before .before .before .before .args in
+    c .none .ensures ∙ sym (entry-none (now (a .list)) (now (a .drom)) (a .n) _ (c .before .before .entry-offset .ensures) (c .before .if1 .taken))
 
-is-accepted-requires : tie.Need-is-accepted-requires
-is-accepted-requires c κs = search needs
+-- ---- where there is an entry
 
-body-start-requires : tie.Need-body-start-requires
-body-start-requires c κs = search needs
+module _ (c : tie.Else1) where
+  stands : let a = c .before .before .before .before .args in
+      Stands (now (a .drom)) (entryPart (now (a .list)) (now (a .drom)) (a .n)) (c .before .entry-offset .result)
+  stands = let a = c .before .before .before .before .args in entry-stands (now (a .list)) (now (a .drom)) (a .n) _ (c .before .entry-offset .ensures) (c .if1 .left)
 
-entry-from-requires : tie.Need-entry-from-requires
-entry-from-requires c κs = omega (arith, c .body-start .ensures, sizes (now (c .before .before .before .before .before .before .args .drom)) (eqb-true (headerRefusal (now (c .before .before .before .before .before .before .args .drom))) 0 (sym (c .before .before .is-accepted .ensures) ∙ c .before .if2 .taken)) .inside)
+shared-slice-read-end : tie.Need-shared-slice-read-end
+shared-slice-read-end c = stands (c .before) .before
+
+cast-end : tie.Need-cast-end
+cast-end c = omega (arith, c .shared-slice-known3 .given (c .before .before .entry-offset .result))
+
+add-end : tie.Need-add-end
+add-end c = omega (arith, stands (c .before) .inside)
+
+sub-result : tie.Need-sub-result
+sub-result c = search needs
+
+part-result-start : tie.Need-part-result-start
+part-result-start c = search needs
+
+part-result-end : tie.Need-part-result-end
+part-result-end c = stands (c .before) .inside
 
 returns-2 : tie.Need-returns-2
 returns-2 c =
-    rw (ne-eqb _ _ (c .before .before .before .before .if1 .left), ← c .before .before .before .is-accepted .ensures, c .before .before .if2 .taken)
-    (c .entry-from .ensures ∙ ap (λ (s : ℕ). getD (walkOf (kindIn (now (c .before .before .before .before .before .before .before .args .list))) s (drop s (now (c .before .before .before .before .before .before .before .args .drom))) .entries) (c .before .before .before .before .before .before .before .args .n) []) (c .before .body-start .ensures))
-
-none-requires-2 : tie.Need-none-requires-2
-none-requires-2 c κs = search needs
-
-returns-3 : tie.Need-returns-3
-returns-3 c = rw (ne-eqb _ _ (c .before .before .before .if1 .left), ← c .before .before .is-accepted .ensures, c .before .if2 .left) (c .none2 .ensures)
+    let drom = now (c .before .before .before .before .before .before .args .drom) in
+    let at = c .before .before .before .entry-offset .result in
+    let long : at + getD drom at 0 - at ≡ getD drom at 0 = omega arith in
+    ap (λ (k : ℕ). take k (drop at drom)) long ∙ sym (stands (c .before .before) .is)
 
 pub nth-entry-spec : {M : Type 1} → statement M
 nth-entry-spec =
     tie.close
     (tie.spec
+    entry-offset-requires
     none-requires
     returns
-    is-accepted-requires
-    body-start-requires
-    entry-from-requires
-    returns-2
-    none-requires-2
-    returns-3)
+    shared-slice-read-end
+    cast-end
+    add-end
+    sub-result
+    part-result-start
+    part-result-end
+    returns-2)

@@ -1,16 +1,18 @@
 // What the library answers to a case, as text.
-use super::text::put_bytes;
-use super::text::put_decimal;
-use super::text::put_hex;
-use super::text::put_text;
-use super::words::MALFORMED;
-use super::words::number;
-use super::words::unhex;
-use super::words::word;
+use super::feeding::answer_feed;
+use super::reports::LENT;
+use super::reports::put_buffer;
+use super::reports::put_count;
+use super::reports::put_report;
 use check::same;
 use drom::Report;
-ghost use Prim.Native.Nat.{_≤_};
-ghost use lib.ListN.{length};
+use lines::text::put_bytes;
+use lines::text::put_decimal;
+use lines::text::put_text;
+use lines::words::MALFORMED;
+use lines::words::number;
+use lines::words::unhex;
+use lines::words::word;
 
 // The most bytes of a case's list, DROM and buffer.
 const LIST: usize = 256;
@@ -19,61 +21,26 @@ const DROM: usize = 4200;
 
 const ROOM: usize = 16400;
 
-// What a buffer holds before it is lent, so that every byte that was written shows.
-const LENT: u8 = 0xa5;
-
-fn put_count(n: usize, out: &mut [u8], at: usize) -> usize {
-    let end = put_decimal(n, out, at);
-    put_text(b" ", out, end)
-}
-
-fn put_sum(n: u64, width: usize, out: &mut [u8], at: usize) -> usize {
-    let end = put_hex(n, width, out, at);
-    put_text(b" ", out, end)
-}
-
-fn put_header(r: Report, out: &mut [u8]) -> usize {
-    let number = put_count(r.number as usize, out, 0);
-    let offset = put_count(r.offset, out, number);
-    let version = put_count(r.version as usize, out, offset);
-    let length = put_count(r.length, out, version);
-    put_count(r.start, out, length)
-}
-
-fn put_sums(r: Report, out: &mut [u8], at: usize) -> usize {
-    let crc32 = put_sum(r.crc32 as u64, 8, out, at);
-    let crc32_good = put_count(r.crc32good as usize, out, crc32);
-    let crc8 = put_sum(r.crc8 as u64, 2, out, crc32_good);
-    let uuid = put_sum(r.uuid, 16, out, crc8);
-    put_count(r.crc8good as usize, out, uuid)
-}
-
-fn put_report(r: Report, out: &mut [u8]) -> usize {
-    let header = put_header(r, out);
-    let sums = put_sums(r, out, header);
-    let records = put_count(r.records, out, sums);
-    put_count(r.bytes, out, records)
-}
-
-// How many bytes are left of a buffer without its tail of untouched ones.
-fn without_tail(buffer: &[u8]) -> usize
-    ensures { λ r. ⌜ r ≤ length (now (buffer .entry)) ⌝ }
-{
-    let mut n = buffer.len();
-    while 0 < n {
-        if buffer[n - 1] != LENT {
-            return n;
-        }
-        n -= 1;
-    }
-    n
+fn put_read(report: Report, lent: &[u8], out: &mut [u8]) -> usize {
+    let end = put_report(report, out, 0);
+    let buffer = put_text(b" ", out, end);
+    put_buffer(lent, out, buffer)
 }
 
 fn read(list: &[u8], drom: &[u8], lent: &mut [u8], out: &mut [u8]) -> usize {
     let report = drom::read(list, drom, lent);
-    let end = put_report(report, out);
-    let n = without_tail(lent);
-    put_bytes(&lent[0..n], out, end)
+    put_read(report, lent, out)
+}
+
+fn read_structs(list: &[u8], drom: &[u8], lent: &mut [u8], out: &mut [u8]) -> usize {
+    if LIST < list.len() {
+        return MALFORMED;
+    }
+    if list.len() % 2 == 1 {
+        return MALFORMED;
+    }
+    let report = structs::read_structs(list, drom, lent);
+    put_read(report, lent, out)
 }
 
 // A part of a DROM, as the place where it is expected if those are its bytes, and else as its bytes.
@@ -99,6 +66,14 @@ fn entry(list: &[u8], drom: &[u8], k: usize, from: usize, out: &mut [u8]) -> usi
     put_part(drom::nth_entry(list, drom, k), drom, from, out)
 }
 
+// Whether a case asks for a reading of a whole DROM, by either entry.
+fn is_read(kind: &[u8]) -> bool {
+    if same(kind, b"read") {
+        return true;
+    }
+    same(kind, b"structs")
+}
+
 fn answer_read(
     case: &[u8],
     list: &mut [u8],
@@ -117,6 +92,9 @@ fn answer_read(
     let room = number(word(case, 3));
     if lent.len() < room {
         return MALFORMED;
+    }
+    if same(word(case, 0), b"structs") {
+        return read_structs(&list[0..n], &drom[0..m], &mut lent[0..room], out);
     }
     read(&list[0..n], &drom[0..m], &mut lent[0..room], out)
 }
@@ -168,9 +146,13 @@ pub(crate) fn answer(case: &[u8], expected: &[u8], out: &mut [u8]) -> usize {
     let mut list = [0u8; LIST];
     let mut drom = [0u8; DROM];
     let kind = word(case, 0);
-    if same(kind, b"read") {
+    if is_read(kind) {
         let mut lent = [LENT; ROOM];
         return answer_read(case, &mut list, &mut drom, &mut lent, out);
+    }
+    if same(kind, b"feed") {
+        let mut lent = [LENT; ROOM];
+        return answer_feed(case, &mut list, &mut drom, &mut lent, out);
     }
     let from = number(word(expected, 0));
     if same(kind, b"part") {

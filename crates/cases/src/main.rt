@@ -1,24 +1,25 @@
 // Asks the reader the cases on standard input, a line for each:
 //     CASE => ANSWER
-// and compares what it answers. `read LIST DROM ROOM` has the answer REPORT BUFFER; `part header DROM` (or body, or whole) and
-// `entry LIST DROM N` have FROM TO. Bytes are in lower-case hex, - for none. BUFFER is what is left of the buffer lent, which
-// is filled with a5 before, without its tail of a5. Writes each line whose answer is another, and how many there were.
+// and compares what it answers. `read LIST DROM ROOM`, and `structs LIST DROM ROOM` by the entry that takes a slice of structs, have
+// the answer REPORT BUFFER; `part header DROM` (or body, or whole) and `entry LIST DROM N` have FROM TO. `feed LIST ANNOUNCED ROOM
+// STEP ..` has an answer a step, set apart by `; `, and then `buffer BUFFER`; a STEP is a piece, `?` for a finish, or `@SIZE`, after
+// which feeds are lent only the first SIZE bytes. Bytes are in lower-case hex, - for none. BUFFER is what is left of the buffer
+// lent, which is filled with a5 before, without its tail of a5. Writes each line whose answer is another, and how many there were.
 mod answers;
-mod text;
-mod words;
+mod feeding;
+mod reports;
 
 use answers::answer;
 use check::same;
 use libc::STDIN_FILENO;
 use libc::STDOUT_FILENO;
-use words::find;
-ghost use mathlib.Core.Path.{_≡_};
+use lines::input::INPUT;
+use lines::input::room;
+use lines::words::find;
+use lines::words::is_comment;
 ghost use Prim.Native.Nat.{_≤_};
-ghost use lib.ListN.{length};
 
-// The most bytes of standard input, and of an answer.
-const INPUT: usize = 262144;
-
+// The most bytes of an answer.
 const ANSWER: usize = 40000;
 
 // A line that cannot be read is a wrong one.
@@ -65,13 +66,6 @@ fn is_right(line: &[u8]) -> bool {
     is_answered(line, &line[0..end], &rest[4..], &mut computed)
 }
 
-fn is_comment(line: &[u8]) -> bool {
-    if line.len() == 0 {
-        return true;
-    }
-    line[0] == b'#'
-}
-
 // What a line adds to the lines compared and to those that were wrong.
 struct Tally {
     compared: u64,
@@ -116,16 +110,9 @@ fn compare_lines(text: &[u8]) -> Tally {
     }
 }
 
-fn room() -> [u8; INPUT]
-    ensures { λ r. ⌜ 262144 ≡ length r ⌝ }
-{
-    [0; INPUT]
-}
-
 fn main() {
     let mut text = room();
     let n = io::read_full(STDIN_FILENO, &mut text);
-    // A text that fills the buffer may have been cut.
     if n == INPUT {
         io::write_all(STDOUT_FILENO, b"too many cases to read\n");
     }

@@ -1,0 +1,69 @@
+-- `structs::adapters_of` meets its contract. The invariant: the place in the list, and that there is an adapter for each.
+-- Assumes nothing.
+use mathlib.Core.Path.{_≡_}
+use Prim.Native.Nat.{_≤_, _-_}
+use lib.ListN.{length}
+use borrow.Author.Needs.{needs}
+use Rattle.structs.proofs.adapters_of.Statement.{statement}
+use Rattle.structs.proofs.adapters_of.Tie as tie
+
+abbrev Inv-loop : tie.InvT-loop
+Inv-loop list adapters₀ n i₀ adapters i = (i ≤ n) × (length adapters ≡ 128)
+
+abbrev μ-loop : tie.MeasureT-loop
+μ-loop list adapters₀ n i₀ adapters i = n - i
+
+loop-holds : tie.Need-loop-holds Inv-loop μ-loop
+loop-holds c = search needs
+
+mul-t8 : tie.Need-mul-t8 Inv-loop μ-loop
+mul-t8 c = search needs
+
+shared-slice-read-t10 : tie.Need-shared-slice-read-t10 Inv-loop μ-loop
+shared-slice-read-t10 c = search needs
+
+mul-t11 : tie.Need-mul-t11 Inv-loop μ-loop
+mul-t11 c = search needs
+
+add-t12 : tie.Need-add-t12 Inv-loop μ-loop
+add-t12 c = search needs
+
+shared-slice-read-t14 : tie.Need-shared-slice-read-t14 Inv-loop μ-loop
+shared-slice-read-t14 c = search needs
+
+mul-adapters : tie.Need-mul-adapters Inv-loop μ-loop
+mul-adapters c = search needs
+
+array-set-from-adapters : tie.Need-array-set-from-adapters Inv-loop μ-loop
+array-set-from-adapters c = search needs
+
+add-i : tie.Need-add-i Inv-loop μ-loop
+add-i c = search needs
+
+loop-less : tie.Need-loop-less Inv-loop μ-loop
+loop-less c = search needs
+
+loop-again : tie.Need-loop-again Inv-loop μ-loop
+loop-again c = search needs
+
+returns : tie.Need-returns Inv-loop μ-loop
+returns c = search needs
+
+pub adapters-of-spec : {M : Type 1} → statement M
+adapters-of-spec =
+    tie.close
+    (tie.spec
+    Inv-loop
+    μ-loop
+    loop-holds
+    mul-t8
+    shared-slice-read-t10
+    mul-t11
+    add-t12
+    shared-slice-read-t14
+    mul-adapters
+    array-set-from-adapters
+    add-i
+    loop-less
+    loop-again
+    returns)

@@ -1,0 +1,40 @@
+// The reader's entry over a slice of structs, for callers that have a list as bytes: test programs, which are asked in bytes.
+use drom::Report;
+use listed::Adapter;
+ghost use Prim.Native.Nat.{_≤_};
+ghost use lib.ListN.{length};
+
+// The most adapters of a list.
+const MOST: usize = 128;
+
+// The adapters of a list of bytes, number then kind; an odd byte at the end is none.
+fn adapters_of(list: &[u8]) -> [Adapter; MOST]
+    requires { ⌜ length (now list) ≤ 256 ⌝ }
+{
+    let none = Adapter { number: 0, kind: 0 };
+    let mut adapters = [none; MOST];
+    let n = list.len() / 2;
+    let mut i = 0;
+    while i < n {
+        adapters[i] = Adapter {
+            number: list[2 * i],
+            kind: list[2 * i + 1],
+        };
+        i += 1;
+    }
+    adapters
+}
+
+// What the entry gives for the first n adapters.
+fn read_first(adapters: [Adapter; MOST], n: usize, drom: &[u8], out: &mut [u8]) -> Report
+    requires { ⌜ n ≤ 128 ⌝ }
+{
+    listed::read_listed(&adapters[..n], drom, out)
+}
+
+// What the entry gives for the adapters of a list of bytes.
+pub fn read_structs(list: &[u8], drom: &[u8], out: &mut [u8]) -> Report
+    requires { ⌜ length (now list) ≤ 256 ⌝ }
+{
+    read_first(adapters_of(list), list.len() / 2, drom, out)
+}

@@ -8,6 +8,15 @@ impl Random {
         Random(0x0123_4567_89ab_cdef)
     }
 
+    /// A generator of its own, for a family of its own.
+    pub fn seeded(seed: u64) -> Self {
+        let mut random = Random(seed.wrapping_mul(0x9e37_79b9_7f4a_7c15) | 1);
+        for _ in 0..8 {
+            random.next();
+        }
+        random
+    }
+
     fn next(&mut self) -> u64 {
         self.0 ^= self.0 << 13;
         self.0 ^= self.0 >> 7;
@@ -24,7 +33,12 @@ impl Random {
         pool[self.below(pool.len())]
     }
 
-    fn byte(&mut self) -> u8 {
+    /// Whether it is one time of so many.
+    pub fn once_in(&mut self, times: usize) -> bool {
+        self.below(times) == 0
+    }
+
+    pub fn byte(&mut self) -> u8 {
         (self.next() >> 16) as u8
     }
 

@@ -1,5 +1,6 @@
 //! Asks the customer's Rust, with a panic as one of the answers.
 
+use std::any::Any;
 use std::cell::Cell;
 use std::panic::{self, AssertUnwindSafe};
 
@@ -17,10 +18,17 @@ pub fn silence_panics() {
     }));
 }
 
-/// The answer, or `None` if there was a panic.
-pub fn ask<A>(question: impl FnOnce() -> A) -> Option<A> {
+/// The answer, or the words of the panic.
+pub fn ask<A>(question: impl FnOnce() -> A) -> Result<A, String> {
     ASKED.set(true);
-    let answer = panic::catch_unwind(AssertUnwindSafe(question)).ok();
+    let answer = panic::catch_unwind(AssertUnwindSafe(question));
     ASKED.set(false);
-    answer
+    answer.map_err(words)
+}
+
+fn words(panic: Box<dyn Any + Send>) -> String {
+    match panic.downcast::<String>() {
+        Ok(words) => *words,
+        Err(other) => other.downcast_ref::<&str>().copied().unwrap_or_default().to_string(),
+    }
 }

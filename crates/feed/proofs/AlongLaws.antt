@@ -65,8 +65,7 @@ pub through-step : (r : Run) (x : ℕ) (xs : List ℕ) (r′ : Run) → r′ ≡
 through-step r x xs r′ e b z =
     let n : r′ .core .taken ≡ r .core .taken + 1 = ap (λ (s : Run). s .core .taken) e ∙ step-moves r x .0 in
     let k : r′ .core .taken - r .core .taken ≡ 1 = omega (arith, n) in
-    let one : take 1 xs ≡ x ∷ [] = take-suc xs 0 0 z ∙ ap (λ (y : ℕ). y ∷ []) (sym b) in
-    (
+    let one : take 1 xs ≡ x ∷ [] = take-suc xs 0 0 z ∙ ap (λ (y : ℕ). y ∷ []) (sym b) in (
       record { same = e ∙ sym (ap (λ (j : ℕ). steps r (take j xs)) k ∙ ap (steps r) one ∙ steps-cons r x [] ∙ steps-nil (stepOf r x)); up = omega (arith, n); within = omega (arith, n) },
       omega (arith, n),
     )
@@ -144,20 +143,22 @@ module _ (c : Core) (h ks xs p₀ b₀ : List ℕ) where
         ∙ ap (λ (v : List ℕ). run (record { announced = c .announced; taken = c .taken + i + l; refusal = c .refusal; offset = c .offset; register = c .register; fill = 0; count = count + 1; written = w + n }) h v ks (withPart b w part)) kept
         ∙ sym (told .1)
         in
-        let size′ : length (withPart b w part) ≡ length b = part-same b part w (omega (arith, enough)) lent in
-        (told .0, record {
-          same = led ∙ ap (λ (v : Run). steps v (take l (l ∷ t))) (a .same) ∙ sym (steps-append r₀ (take i xs) (take l (l ∷ t)))
-              ∙ ap (λ (v : List ℕ). steps r₀ (take i xs ++ v)) (sym (ap (take l) form)) ∙ ap (steps r₀) (sym (take-add i l xs));
-          taken = refl;
-          up = e .whole;
-          left = omega (arith, a .left, e .whole);
-          between = record { going = a .between .going; empty = a .between .empty; late = omega (arith, a .between .late); past = omega (arith, a .between .past); long = ap length kept ∙ length-sets p 0 (take l (l ∷ t)) ∙ a .between .long };
-          small = a .small;
-          fewer = omega (arith, a .fewer);
-          room = omega (arith, a .room, told .0, a .between .late);
-          lent = omega (arith, a .lent, size′);
-          long = size′ ∙ a .long;
-        })
+        let size′ : length (withPart b w part) ≡ length b = part-same b part w (omega (arith, enough)) lent in (
+          told .0,
+          record {
+            same = led ∙ ap (λ (v : Run). steps v (take l (l ∷ t))) (a .same) ∙ sym (steps-append r₀ (take i xs) (take l (l ∷ t)))
+                ∙ ap (λ (v : List ℕ). steps r₀ (take i xs ++ v)) (sym (ap (take l) form)) ∙ ap (steps r₀) (sym (take-add i l xs));
+            taken = refl;
+            up = e .whole;
+            left = omega (arith, a .left, e .whole);
+            between = record { going = a .between .going; empty = a .between .empty; late = omega (arith, a .between .late); past = omega (arith, a .between .past); long = ap length kept ∙ length-sets p 0 (take l (l ∷ t)) ∙ a .between .long };
+            small = a .small;
+            fewer = omega (arith, a .fewer);
+            room = omega (arith, a .room, told .0, a .between .late);
+            lent = omega (arith, a .lent, size′);
+            long = size′ ∙ a .long;
+          },
+        )
 
 -- ---- the loop over a piece
 

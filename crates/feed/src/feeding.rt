@@ -342,7 +342,14 @@ fn take_in(state: State, piece: &[u8], records: &mut [u8]) -> State
                 }
             }
         }
-        let c = take_some(core, &mut header, &piece[i..], &mut pending, &kinds, records);
+        let c = take_some(
+            core,
+            &mut header,
+            &piece[i..],
+            &mut pending,
+            &kinds,
+            records,
+        );
         i += c.taken - at;
         core = c;
     }

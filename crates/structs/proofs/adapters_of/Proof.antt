@@ -8,28 +8,28 @@ use Rattle.structs.proofs.adapters_of.Statement.{statement}
 use Rattle.structs.proofs.adapters_of.Tie as tie
 
 abbrev Inv-loop : tie.InvT-loop
-Inv-loop list adapters₀ n i₀ adapters i = (i ≤ n) × (length adapters ≡ 128)
+Inv-loop list n adapters₀ i₀ adapters i = (i ≤ n) × (length adapters ≡ 128)
 
 abbrev μ-loop : tie.MeasureT-loop
-μ-loop list adapters₀ n i₀ adapters i = n - i
+μ-loop list n adapters₀ i₀ adapters i = n - i
 
 loop-holds : tie.Need-loop-holds Inv-loop μ-loop
 loop-holds c = search needs
 
-mul-t8 : tie.Need-mul-t8 Inv-loop μ-loop
-mul-t8 c = search needs
+mul-t7 : tie.Need-mul-t7 Inv-loop μ-loop
+mul-t7 c = search needs
 
-shared-slice-read-t10 : tie.Need-shared-slice-read-t10 Inv-loop μ-loop
-shared-slice-read-t10 c = search needs
+shared-slice-read-t9 : tie.Need-shared-slice-read-t9 Inv-loop μ-loop
+shared-slice-read-t9 c = search needs
 
-mul-t11 : tie.Need-mul-t11 Inv-loop μ-loop
-mul-t11 c = search needs
+mul-t10 : tie.Need-mul-t10 Inv-loop μ-loop
+mul-t10 c = search needs
 
-add-t12 : tie.Need-add-t12 Inv-loop μ-loop
-add-t12 c = search needs
+add-t11 : tie.Need-add-t11 Inv-loop μ-loop
+add-t11 c = search needs
 
-shared-slice-read-t14 : tie.Need-shared-slice-read-t14 Inv-loop μ-loop
-shared-slice-read-t14 c = search needs
+shared-slice-read-t13 : tie.Need-shared-slice-read-t13 Inv-loop μ-loop
+shared-slice-read-t13 c = search needs
 
 mul-adapters : tie.Need-mul-adapters Inv-loop μ-loop
 mul-adapters c = search needs
@@ -56,11 +56,11 @@ adapters-of-spec =
     Inv-loop
     μ-loop
     loop-holds
-    mul-t8
-    shared-slice-read-t10
-    mul-t11
-    add-t12
-    shared-slice-read-t14
+    mul-t7
+    shared-slice-read-t9
+    mul-t10
+    add-t11
+    shared-slice-read-t13
     mul-adapters
     array-set-from-adapters
     add-i

@@ -28,7 +28,7 @@ returns-2 : tie.Need-returns-2 Inv-loop μ-loop
 returns-2 c = through-none _ _
 
 loop-holds : tie.Need-loop-holds Inv-loop μ-loop
-loop-holds c = 
+loop-holds c =
     let a = c .before .before .before .before .before .before .before .before .args in
     along-start (a .core) (now (a .header)) (now (a .kinds)) (now (a .piece)) (now (a .pending)) (now (a .records)) (c .before .before .before .before .before .before .before .before .pre .0) (c .before .before .before .before .before .before .before .before .pre .1) (c .before .before .before .before .before .before .before .before .pre .2)
     (omega arith) (omega (arith, c .before .before .body-start .ensures, c .if2 .left)) (c .before .before .before .before .before .before .before .before .pre .3)

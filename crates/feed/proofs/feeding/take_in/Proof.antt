@@ -28,7 +28,7 @@ register-after-requires : tie.Need-register-after-requires Inv-loop μ-loop
 register-after-requires c κs = search needs
 
 loop-holds : tie.Need-loop-holds Inv-loop μ-loop
-loop-holds c = 
+loop-holds c =
     let a = c .before .before .before .before .before .before .before .args in
     let hl : length (a .state .header) ≡ 16 = search needs in
     let l : length (a .state .pending) ≡ 255 = search needs in
@@ -59,7 +59,7 @@ loop-again : tie.Need-loop-again Inv-loop μ-loop
 loop-again c = held-passes _ _ _ _ (λ j. c .before .before .shared-slice-known2 .given j .fits) (c .before .before .before .before .loop .inv) (c .if1 .taken)
 
 add-if3 : tie.Need-add-if3 Inv-loop μ-loop
-add-if3 c = 
+add-if3 c =
     let v = c .before .before .before .before .before .loop .inv .good .live (c .before .if1 .left) in
     omega arith
 
@@ -70,7 +70,7 @@ wide-requires : tie.Need-wide-requires Inv-loop μ-loop
 wide-requires c κs = search needs
 
 array-write-pending : tie.Need-array-write-pending Inv-loop μ-loop
-array-write-pending c = 
+array-write-pending c =
     let v = c .before .before .before .before .before .before .before .before .loop .inv .good .live (c .before .before .before .before .if1 .left) in
     omega (arith, c .before .before .before .before .before .before .before .before .loop .inv .good)
 
@@ -78,7 +78,7 @@ add-core-2 : tie.Need-add-core-2 Inv-loop μ-loop
 add-core-2 c = omega (arith, c .before .before .before .before .before .before .before .before .loop .inv, c .before .before .before .before .before .before .before .loop-test .taken)
 
 add-core-3 : tie.Need-add-core-3 Inv-loop μ-loop
-add-core-3 c = 
+add-core-3 c =
     let v = c .before .before .before .before .before .before .before .before .loop .inv .good .live (c .before .before .before .before .if1 .left) in
     omega arith
 
@@ -89,7 +89,7 @@ loop-less-2 : tie.Need-loop-less-2 Inv-loop μ-loop
 loop-less-2 c = omega (arith, c .before .before .before .before .before .before .before .loop-test .taken)
 
 loop-again-2 : tie.Need-loop-again-2 Inv-loop μ-loop
-loop-again-2 c = 
+loop-again-2 c =
     let l = c .before .before .before .before .before .before .before .before .loop in
     let kinds = c .before .before .before .before .before .before .before .before .before .before .before .before .before .before .before .before .args .state .kinds in
     let r : Run = run (l .core) (l .header) (l .pending) kinds (l .records) in
@@ -134,7 +134,7 @@ same-length : tie.Need-same-length Inv-loop μ-loop
 same-length c = search needs
 
 returns : tie.Need-returns Inv-loop μ-loop
-returns c = 
+returns c =
     let a = c .before .before .before .before .before .before .before .before .before .args in
     let e = held-end _ _ _ _ (c .before .loop .inv) (c .loop-test .left) in
     let register = c .before .before .before .before .before .register-after .result in

@@ -70,7 +70,7 @@ fn complete(core: Core, pending: &[u8], kinds: &[u8; 64], records: &mut [u8]) ->
     let bytes = &pending[..end];
     let kind = kind_for(kinds, bytes);
     let mut c = core;
-    match record::write_entry(bytes, kind, at, &mut records[written..]) {
+    match record::write_by_row(bytes, kind, at, &mut records[written..]) {
         Written::Record(n) => {
             c.fill = 0;
             c.count = core.count + 1;

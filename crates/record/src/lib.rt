@@ -6,4 +6,5 @@ pub use step::Head;
 pub use step::head_of;
 pub use step::record_length;
 pub use write::Written;
+pub use write::write_by_row;
 pub use write::write_entry;

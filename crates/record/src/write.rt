@@ -372,19 +372,29 @@ fn put_record(e: DromEntry, offset: usize, bytes: &[u8], out: &mut [u8]) -> usiz
 
 // An entry's record, for the kind that is listed for its number and where it stands in the DROM. No record exceeds four
 // times its entry.
-pub fn write_entry(bytes: &[u8], kind: u8, offset: usize, out: &mut [u8]) -> Written
+pub fn write_by_row(bytes: &[u8], kind: u8, offset: usize, out: &mut [u8]) -> Written
     ensures answer { λ r. ⌜ r ≡ writeAnswer (now (bytes .entry)) kind offset (length (now (out .entry))) ⌝ }
     ensures buffer { λ r. ⌜ now (out .exit) ≡ writeLeaves (now (bytes .entry)) kind offset (now (out .entry)) ⌝ }
 {
     if out.len() / 4 < bytes.len() {
         return Written::NoRoom;
     }
-    // An entry of one byte is a head alone; a body may have thousands of them.
-    if bytes.len() == 1 {
-        return Written::Record(put_head(0, offset, 1, out));
-    }
     match entry::decode(bytes, kind) {
         Decoded::Is(e) => Written::Record(put_record(e, offset, bytes, out)),
         Decoded::Refused(n) => Written::Refused(n),
     }
+}
+
+// The same. An entry of one byte is a head alone; a body may have thousands, and in the loops over entries they take no further call.
+pub fn write_entry(bytes: &[u8], kind: u8, offset: usize, out: &mut [u8]) -> Written
+    ensures answer { λ r. ⌜ r ≡ writeAnswer (now (bytes .entry)) kind offset (length (now (out .entry))) ⌝ }
+    ensures buffer { λ r. ⌜ now (out .exit) ≡ writeLeaves (now (bytes .entry)) kind offset (now (out .entry)) ⌝ }
+{
+    if bytes.len() != 1 {
+        return write_by_row(bytes, kind, offset, out);
+    }
+    if out.len() < 4 {
+        return Written::NoRoom;
+    }
+    Written::Record(put_head(0, offset, 1, out))
 }

@@ -23,17 +23,17 @@ slice-aggregate-bytes c = sym (length-take-le _ _ (omega arith))
 kind-for-requires : tie.Need-kind-for-requires
 kind-for-requires c κs = search needs
 
-sub-write-entry : tie.Need-sub-write-entry
-sub-write-entry c = search needs
+sub-write-by-row : tie.Need-sub-write-by-row
+sub-write-by-row c = search needs
 
-part-write-entry-start : tie.Need-part-write-entry-start
-part-write-entry-start c = search needs
+part-write-by-row-start : tie.Need-part-write-by-row-start
+part-write-by-row-start c = search needs
 
-part-write-entry-end : tie.Need-part-write-entry-end
-part-write-entry-end c = search needs
+part-write-by-row-end : tie.Need-part-write-by-row-end
+part-write-by-row-end c = search needs
 
-write-entry-requires : tie.Need-write-entry-requires
-write-entry-requires c κs = search needs
+write-by-row-requires : tie.Need-write-by-row-requires
+write-by-row-requires c κs = search needs
 
 enum-known-n : tie.Need-enum-known-n
 enum-known-n c = search needs
@@ -47,7 +47,7 @@ add-c-2 c =
     let r : Run = run (a .core) [] (now (a .pending)) (now (a .kinds)) (now (a .records)) in
     let size : length (pendingEntry r) ≡ a .core .fill + 1 = length-take-le (a .core .fill + 1) (now (a .pending)) (omega (arith, c .before .before .before .before .before .before .before .before .before .before .before .before .before .before .pre)) in
     let room : a .core .written + 4 * length (pendingEntry r) ≤ length (now (a .records)) = omega (arith, c .before .before .before .before .before .before .before .before .before .before .before .before .before .before .pre) in
-    let small = written-record r _ _ (c .before .before .before .before .before .before .before .before .kind-for .ensures) room (c .before .before .before .before .before .before .write-entry .ensures .1) _ (sym (c .before .before .before .before .before .before .write-entry .ensures .0) ∙ c .before .before .n .given .1) .0 in
+    let small = written-record r _ _ (c .before .before .before .before .before .before .before .before .kind-for .ensures) room (c .before .before .before .before .before .before .write-by-row .ensures .1) _ (sym (c .before .before .before .before .before .before .write-by-row .ensures .0) ∙ c .before .before .n .given .1) .0 in
     omega (arith, small, size, c .before .before .before .before .before .before .before .before .before .before .before .before .before .before .pre)
 
 enum-known-number : tie.Need-enum-known-number
@@ -65,7 +65,7 @@ returns c = λ h.
     let r : Run = run (a .core) h (now (a .pending)) (now (a .kinds)) (now (a .records)) in
     let size : length (pendingEntry r) ≡ a .core .fill + 1 = length-take-le (a .core .fill + 1) (now (a .pending)) (omega (arith, c .before .before .before .before .before .before .before .before .before .before .before .before .before .before .pre)) in
     let room : a .core .written + 4 * length (pendingEntry r) ≤ length (now (a .records)) = omega (arith, c .before .before .before .before .before .before .before .before .before .before .before .before .before .before .pre) in
-    sym (written-record r _ _ (c .before .before .before .before .before .before .before .before .kind-for .ensures) room (c .before .before .before .before .before .before .write-entry .ensures .1) _ (sym (c .before .before .before .before .before .before .write-entry .ensures .0) ∙ c .before .before .n .given .1) .1)
+    sym (written-record r _ _ (c .before .before .before .before .before .before .before .before .kind-for .ensures) room (c .before .before .before .before .before .before .write-by-row .ensures .1) _ (sym (c .before .before .before .before .before .before .write-by-row .ensures .0) ∙ c .before .before .n .given .1) .1)
 
 same-length-2 : tie.Need-same-length-2
 same-length-2 c = search needs
@@ -76,7 +76,7 @@ returns-2 c = λ h.
     let r : Run = run (a .core) h (now (a .pending)) (now (a .kinds)) (now (a .records)) in
     let size : length (pendingEntry r) ≡ a .core .fill + 1 = length-take-le (a .core .fill + 1) (now (a .pending)) (omega (arith, c .before .before .before .before .before .before .before .before .before .before .before .before .before .pre)) in
     let room : a .core .written + 4 * length (pendingEntry r) ≤ length (now (a .records)) = omega (arith, c .before .before .before .before .before .before .before .before .before .before .before .before .before .pre) in
-    sym (written-refused r _ _ (c .before .before .before .before .before .before .before .kind-for .ensures) room (c .before .before .before .before .before .write-entry .ensures .1) _ (sym (c .before .before .before .before .before .write-entry .ensures .0) ∙ c .before .number .given .1))
+    sym (written-refused r _ _ (c .before .before .before .before .before .before .before .kind-for .ensures) room (c .before .before .before .before .before .write-by-row .ensures .1) _ (sym (c .before .before .before .before .before .write-by-row .ensures .0) ∙ c .before .number .given .1))
 
 same-length-3 : tie.Need-same-length-3
 same-length-3 c = search needs
@@ -87,7 +87,7 @@ returns-3 c = λ h.
     let r : Run = run (a .core) h (now (a .pending)) (now (a .kinds)) (now (a .records)) in
     let size : length (pendingEntry r) ≡ a .core .fill + 1 = length-take-le (a .core .fill + 1) (now (a .pending)) (omega (arith, c .before .before .before .before .before .before .before .before .before .before .before .before .pre)) in
     let room : a .core .written + 4 * length (pendingEntry r) ≤ length (now (a .records)) = omega (arith, c .before .before .before .before .before .before .before .before .before .before .before .before .pre) in
-    absurd (written-never r _ _ (c .before .before .before .before .before .before .kind-for .ensures) room (c .before .before .before .before .write-entry .ensures .1) (sym (c .before .before .before .before .write-entry .ensures .0) ∙ c .enum-told .given .1))
+    absurd (written-never r _ _ (c .before .before .before .before .before .before .kind-for .ensures) room (c .before .before .before .before .write-by-row .ensures .1) (sym (c .before .before .before .before .write-by-row .ensures .0) ∙ c .enum-told .given .1))
 
 pub complete-spec : {M : Type 1} → statement M
 complete-spec =
@@ -97,10 +97,10 @@ complete-spec =
     sub-at
     slice-aggregate-bytes
     kind-for-requires
-    sub-write-entry
-    part-write-entry-start
-    part-write-entry-end
-    write-entry-requires
+    sub-write-by-row
+    part-write-by-row-start
+    part-write-by-row-end
+    write-by-row-requires
     enum-known-n
     add-c
     add-c-2

@@ -19,18 +19,6 @@ unfolding le
 le-length zero n = refl
 le-length (suc width) n = ap suc (le-length width (n / 256))
 
--- the loop that writes a number: its start, a turn, its end
-pub le-start : (width n : ℕ) → le (width - 0) n ≡ le width n
-le-start width n = let e : width - 0 ≡ width = omega arith in rw e
-
-pub le-next : (width i n : ℕ) → i < width → le (width - i) n ≡ n % 256 ∷ le (width - (i + 1)) (n / 256)
-unfolding le
-le-next width i n h = let e : width - i ≡ suc (width - (i + 1)) = omega arith in rw e
-
-pub le-end : (width i n : ℕ) → width ≤ i → le (width - i) n ≡ []
-unfolding le
-le-end width i n h = let e : width - i ≡ 0 = omega arith in rw e
-
 -- ---- the bytes of numbers
 
 pub numbers-next : (ns : List ℕ) (i : ℕ) → i < length ns

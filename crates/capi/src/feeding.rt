@@ -8,7 +8,7 @@ ghost use Rattle.capi.specs.Bytes.{numberAt};
 ghost use Rattle.capi.specs.State.{stateSize, coreBytes, stateBytes, coreIn, stateIn};
 ghost use Rattle.capi.specs.Calls.{noState, openAnswer, openState, openNext, feedAnswer, feedState, feedRecords, feedNext, finishAnswer, finishReport, countAnswer, bytesAnswer};
 use super::numbers::number_at;
-use super::numbers::put_le;
+use super::numbers::put_four;
 use super::numbers::put_numbers;
 use super::reading::put_report;
 use feed::Core;
@@ -27,8 +27,8 @@ fn put_core(c: Core, out: &mut [u8]) -> usize
         c.written as u64,
     ];
     put_numbers(&numbers, out);
-    put_le(c.register as u64, 4, &mut out[48..]);
-    52 + put_le(c.refusal as u64, 1, &mut out[52..])
+    put_four(c.register as u64, &mut out[48..]);
+    52 + bits::put1(c.refusal, &mut out[52..])
 }
 
 // The 388 bytes of a state, from which the same state is read again.

@@ -6,19 +6,26 @@ ghost use Rattle.bits.specs.Front.{Wrote};
 ghost use Rattle.bits.specs.Bits.{flag};
 ghost use Rattle.capi.specs.Bytes.{le, numbersBytes, numberAt};
 
-// The low bytes of a number, `width` of them.
-pub(crate) fn put_le(n: u64, width: usize, out: &mut [u8]) -> usize
-    requires { ⌜ width ≤ length (now out) ⌝ }
-    ensures { λ r. ⌜ Wrote (le width n) (now (out .entry)) (now (out .exit)) r ⌝ }
+// The low four bytes of a number. Written out, so that they become one store.
+pub(crate) fn put_four(n: u64, out: &mut [u8]) -> usize
+    requires { ⌜ 4 ≤ length (now out) ⌝ }
+    ensures { λ r. ⌜ Wrote (le 4 n) (now (out .entry)) (now (out .exit)) r ⌝ }
 {
-    let mut left = n;
-    let mut i = 0;
-    while i < width {
-        out[i] = (left % 256) as u8;
-        left /= 256;
-        i += 1;
-    }
-    i
+    bits::put4(
+        (n % 256) as u8,
+        (n / 256 % 256) as u8,
+        (n / 256 / 256 % 256) as u8,
+        (n / 256 / 256 / 256 % 256) as u8,
+        out,
+    )
+}
+
+fn put_eight(n: u64, out: &mut [u8]) -> usize
+    requires { ⌜ 8 ≤ length (now out) ⌝ }
+    ensures { λ r. ⌜ Wrote (le 8 n) (now (out .entry)) (now (out .exit)) r ⌝ }
+{
+    put_four(n, out);
+    4 + put_four(n / 256 / 256 / 256 / 256, &mut out[4..])
 }
 
 // Eight bytes for each number.
@@ -29,7 +36,7 @@ pub(crate) fn put_numbers(numbers: &[u64], out: &mut [u8]) -> usize
     let mut at = 0;
     let mut i = 0;
     while i < numbers.len() {
-        at += put_le(numbers[i], 8, &mut out[at..]);
+        at += put_eight(numbers[i], &mut out[at..]);
         i += 1;
     }
     at

@@ -1,8 +1,12 @@
 -- `capi::put_core` meets its contract. Six numbers, and behind them the register and the refusal.
 -- Assumes nothing.
-use mathlib.Core.Path.{refl}
+use mathlib.Core.Path.{_≡_, refl, sym, ap}
+use Prim.Native.Nat.{ℕ, _%_}
+use mathlib.Core.List.{_∷_, []}
 use native.Mathlib.Omega.{arith}
-use Rattle.bits.proofs.LawsFront.{follows, wrote-le}
+use mir.Syntax.{w8}
+use mir.Val.{Fits}
+use Rattle.bits.proofs.LawsFront.{follows, fitted, wrote-le, put-le}
 use Rattle.capi.specs.Bytes.{le, numbersBytes}
 use borrow.Author.Needs.{needs}
 use Rattle.capi.proofs.feeding.put_core.Statement.{statement}
@@ -14,45 +18,45 @@ slice-aggregate-put-numbers c = search needs
 put-numbers-requires : tie.Need-put-numbers-requires
 put-numbers-requires c κs = search needs
 
-cast-put-le : tie.Need-cast-put-le
-cast-put-le c = search needs
+cast-put-four : tie.Need-cast-put-four
+cast-put-four c = search needs
 
-sub-put-le : tie.Need-sub-put-le
-sub-put-le c = search needs
+sub-put-four : tie.Need-sub-put-four
+sub-put-four c = search needs
 
-part-put-le-start : tie.Need-part-put-le-start
-part-put-le-start c = search needs
+part-put-four-start : tie.Need-part-put-four-start
+part-put-four-start c = search needs
 
-part-put-le-end : tie.Need-part-put-le-end
-part-put-le-end c = search needs
+part-put-four-end : tie.Need-part-put-four-end
+part-put-four-end c = search needs
 
-put-le-requires : tie.Need-put-le-requires
-put-le-requires c κs = search needs
+put-four-requires : tie.Need-put-four-requires
+put-four-requires c κs = search needs
 
-cast-put-le-2 : tie.Need-cast-put-le-2
-cast-put-le-2 c = search needs
+sub-put1 : tie.Need-sub-put1
+sub-put1 c = search needs
 
-sub-put-le-2 : tie.Need-sub-put-le-2
-sub-put-le-2 c = search needs
+part-put1-start : tie.Need-part-put1-start
+part-put1-start c = search needs
 
-part-put-le-start-2 : tie.Need-part-put-le-start-2
-part-put-le-start-2 c = search needs
+part-put1-end : tie.Need-part-put1-end
+part-put1-end c = search needs
 
-part-put-le-end-2 : tie.Need-part-put-le-end-2
-part-put-le-end-2 c = search needs
-
-put-le-requires-2 : tie.Need-put-le-requires-2
-put-le-requires-2 c κs = search needs
+put1-requires : tie.Need-put1-requires
+put1-requires c κs = search needs
 
 add-result : tie.Need-add-result
-add-result c = omega (arith, wrote-le (c .before .before .put-le2 .ensures))
+add-result c = omega (arith, put-le (c .before .before .put1 .ensures))
 
 same-length : tie.Need-same-length
 same-length c = search needs
 
 returns : tie.Need-returns
 unfolding le numbersBytes
-returns c = follows 52 refl (follows 48 refl (c .before .before .before .before .before .before .before .before .before .before .before .before .put-numbers .ensures) (c .before .before .before .before .before .before .before .put-le .ensures)) (c .before .before .put-le2 .ensures)
+returns c =
+    let small : Fits w8 (c .before .before .before .before .before .before .before .before .before .before .before .before .before .before .before .args .c .refusal) = search needs in
+    let byte : c .before .before .before .before .before .before .before .before .before .before .before .before .before .before .before .args .c .refusal % 256 ≡ c .before .before .before .before .before .before .before .before .before .before .before .before .before .before .before .args .c .refusal = omega (arith, small .fits) in
+    rw byte (follows 52 refl (follows 48 refl (c .before .before .before .before .before .before .before .before .before .before .before .put-numbers .ensures) (c .before .before .before .before .before .before .put-four .ensures)) (fitted (c .before .before .put1 .ensures) (search needs)))
 
 pub put-core-spec : {M : Type 1} → statement M
 put-core-spec =
@@ -60,16 +64,15 @@ put-core-spec =
     (tie.spec
     slice-aggregate-put-numbers
     put-numbers-requires
-    cast-put-le
-    sub-put-le
-    part-put-le-start
-    part-put-le-end
-    put-le-requires
-    cast-put-le-2
-    sub-put-le-2
-    part-put-le-start-2
-    part-put-le-end-2
-    put-le-requires-2
+    cast-put-four
+    sub-put-four
+    part-put-four-start
+    part-put-four-end
+    put-four-requires
+    sub-put1
+    part-put1-start
+    part-put1-end
+    put1-requires
     add-result
     same-length
     returns)

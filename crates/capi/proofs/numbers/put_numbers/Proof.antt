@@ -22,26 +22,26 @@ abbrev μ-loop : tie.MeasureT-loop
 loop-holds : tie.Need-loop-holds Inv-loop μ-loop
 loop-holds c = (omega arith, refl, refl, writing-start)
 
-mul-put-le : tie.Need-mul-put-le Inv-loop μ-loop
-mul-put-le c = search needs
+mul-put-eight : tie.Need-mul-put-eight Inv-loop μ-loop
+mul-put-eight c = search needs
 
-shared-slice-read-put-le : tie.Need-shared-slice-read-put-le Inv-loop μ-loop
-shared-slice-read-put-le c = omega arith
+shared-slice-read-put-eight : tie.Need-shared-slice-read-put-eight Inv-loop μ-loop
+shared-slice-read-put-eight c = omega arith
 
-sub-put-le : tie.Need-sub-put-le Inv-loop μ-loop
-sub-put-le c = omega arith
+sub-put-eight : tie.Need-sub-put-eight Inv-loop μ-loop
+sub-put-eight c = omega arith
 
-part-put-le-start : tie.Need-part-put-le-start Inv-loop μ-loop
-part-put-le-start c = omega arith
+part-put-eight-start : tie.Need-part-put-eight-start Inv-loop μ-loop
+part-put-eight-start c = omega arith
 
-part-put-le-end : tie.Need-part-put-le-end Inv-loop μ-loop
-part-put-le-end c = omega arith
+part-put-eight-end : tie.Need-part-put-eight-end Inv-loop μ-loop
+part-put-eight-end c = omega arith
 
-put-le-requires : tie.Need-put-le-requires Inv-loop μ-loop
-put-le-requires c κs = search needs
+put-eight-requires : tie.Need-put-eight-requires Inv-loop μ-loop
+put-eight-requires c κs = search needs
 
 add-at : tie.Need-add-at Inv-loop μ-loop
-add-at c = omega (arith, c .before .before .put-le .ensures .counts ∙ le-length 8 _)
+add-at c = omega (arith, c .before .before .put-eight .ensures .counts ∙ le-length 8 _)
 
 add-i : tie.Need-add-i Inv-loop μ-loop
 add-i c = omega arith
@@ -53,7 +53,7 @@ loop-again : tie.Need-loop-again Inv-loop μ-loop
 loop-again c =
     let at = c .before .before .before .before .before .before .loop in
     let numbers = c .before .before .before .before .before .before .before .before .before .args .numbers .now in
-    let put = c .before .before .put-le in
+    let put = c .before .before .put-eight in
     let eight : put .result ≡ 8 = put .ensures .counts ∙ le-length 8 _ in
     (omega arith, omega arith, omega arith, writing-piece (rw (numbers-next numbers (at .i) (omega arith)) at (at .inv .3)) (put .ensures))
 
@@ -73,12 +73,12 @@ put-numbers-spec =
     Inv-loop
     μ-loop
     loop-holds
-    mul-put-le
-    shared-slice-read-put-le
-    sub-put-le
-    part-put-le-start
-    part-put-le-end
-    put-le-requires
+    mul-put-eight
+    shared-slice-read-put-eight
+    sub-put-eight
+    part-put-eight-start
+    part-put-eight-end
+    put-eight-requires
     add-at
     add-i
     loop-less

@@ -37,13 +37,10 @@ fn put_state(s: State, out: &mut [u8]) -> usize
     ensures bytes { λ r. ⌜ Wrote (stateBytes s) (now (out .entry)) (now (out .exit)) r ⌝ }
     ensures back { λ r. ⌜ stateIn (now (out .exit)) ≡ s ⌝ }
 {
-    let header = s.header;
-    let pending = s.pending;
-    let kinds = s.kinds;
     put_core(s.core, out);
-    bits::put_all(&header, &mut out[53..]);
-    bits::put_all(&pending, &mut out[69..]);
-    324 + bits::put_all(&kinds, &mut out[324..])
+    bits::put_all(&s.header, &mut out[53..]);
+    bits::put_all(&s.pending, &mut out[69..]);
+    324 + bits::put_all(&s.kinds, &mut out[324..])
 }
 
 fn core_in(bytes: &[u8]) -> Core
@@ -111,8 +108,7 @@ pub extern "C" fn drom_feed(state: &mut [u8], piece: &[u8], records: &mut [u8]) 
     }
     let s = state_in(state);
     let fed = feed::feed(s, piece, records);
-    let after = fed.state;
-    put_state(after, state);
+    put_state(fed.state, state);
     fed.number
 }
 

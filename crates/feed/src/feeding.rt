@@ -310,9 +310,10 @@ fn take_some(
 }
 
 // The loop over a piece. A byte in the middle of an entry is kept without a call.
-fn take_in(state: State, piece: &[u8], records: &mut [u8]) -> State
+fn take_in(state: State, piece: &[u8], records: &mut [u8]) -> Fed
     requires { ⌜ (inBounds (state .core) ≡ true) × (16368 ≤ length (now records)) × (length (now piece) ≤ state .core .announced - state .core .taken) ⌝ }
-    ensures state { λ r. ⌜ r ≡ stateAfter (steps (runIn state (now (records .entry))) (now (piece .entry))) (registerAfter (state .core .register) (state .core .taken) (now (piece .entry))) ⌝ }
+    ensures state { λ r. ⌜ r .state ≡ stateAfter (steps (runIn state (now (records .entry))) (now (piece .entry))) (registerAfter (state .core .register) (state .core .taken) (now (piece .entry))) ⌝ }
+    ensures number { λ r. ⌜ r .number ≡ 0 ⌝ }
     ensures buffer { λ r. ⌜ now (records .exit) ≡ steps (runIn state (now (records .entry))) (now (piece .entry)) .buffer ⌝ }
 {
     let mut core = state.core;
@@ -354,11 +355,14 @@ fn take_in(state: State, piece: &[u8], records: &mut [u8]) -> State
         core = c;
     }
     core.register = register;
-    State {
-        core,
-        header,
-        pending,
-        kinds,
+    Fed {
+        number: 0,
+        state: State {
+            core,
+            header,
+            pending,
+            kinds,
+        },
     }
 }
 
@@ -376,11 +380,7 @@ pub fn feed(state: State, piece: &[u8], records: &mut [u8]) -> Fed
     if core.announced - core.taken < piece.len() {
         return Fed { number: 12, state };
     }
-    let s = take_in(state, piece, records);
-    Fed {
-        number: 0,
-        state: s,
-    }
+    take_in(state, piece, records)
 }
 
 pub fn record_count(state: State) -> usize

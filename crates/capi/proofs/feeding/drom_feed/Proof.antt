@@ -34,9 +34,9 @@ same-length-2 c = search needs
 
 returns-2 : tie.Need-returns-2
 returns-2 c =
-    let a = c .before .before .before .before .before .before .before .before .before .before .before .before .before .before .before .args in
-    let room = le-ltb (length (now (a .state))) 388 (c .before .before .before .before .before .before .before .before .before .before .before .if1 .left) in
-    let fed = c .before .before .before .before .before .before .before .feed .ensures ∙ ap (λ (s : State). feedOf s (now (a .piece)) (now (a .records))) (c .before .before .before .before .before .before .before .before .before .state-in .ensures) in (
+    let a = c .before .before .before .before .before .before .before .before .before .before .before .before .before .before .args in
+    let room = le-ltb (length (now (a .state))) 388 (c .before .before .before .before .before .before .before .before .before .before .if1 .left) in
+    let fed = c .before .before .before .before .before .before .feed .ensures ∙ ap (λ (s : State). feedOf s (now (a .piece)) (now (a .records))) (c .before .before .before .before .before .before .before .before .state-in .ensures) in (
       rw room (ap (λ (x : Answer). x .fed .number) fed),
       (
         rw room (c .before .before .put-state .ensures .0 .holds ∙ ap (λ (x : Answer). onto (stateBytes (x .fed .state)) (now (a .state))) fed),

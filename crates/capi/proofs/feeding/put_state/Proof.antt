@@ -14,9 +14,6 @@ use Rattle.capi.proofs.feeding.put_state.Tie as tie
 put-core-requires : tie.Need-put-core-requires
 put-core-requires c κs = search needs
 
-slice-aggregate-put-all : tie.Need-slice-aggregate-put-all
-slice-aggregate-put-all c = search needs
-
 sub-put-all : tie.Need-sub-put-all
 sub-put-all c = search needs
 
@@ -29,9 +26,6 @@ part-put-all-end c = search needs
 put-all-requires : tie.Need-put-all-requires
 put-all-requires c κs = search needs
 
-slice-aggregate-put-all-2 : tie.Need-slice-aggregate-put-all-2
-slice-aggregate-put-all-2 c = search needs
-
 sub-put-all-2 : tie.Need-sub-put-all-2
 sub-put-all-2 c = search needs
 
@@ -43,9 +37,6 @@ part-put-all-end-2 c = search needs
 
 put-all-requires-2 : tie.Need-put-all-requires-2
 put-all-requires-2 c κs = search needs
-
-slice-aggregate-put-all-3 : tie.Need-slice-aggregate-put-all-3
-slice-aggregate-put-all-3 c = search needs
 
 sub-put-all-3 : tie.Need-sub-put-all-3
 sub-put-all-3 c = search needs
@@ -67,14 +58,14 @@ same-length c = search needs
 
 returns : tie.Need-returns
 returns c =
-    let s = c .before .before .before .before .before .before .before .before .before .before .before .before .before .before .before .before .before .before .before .before .before .before .before .args .s in
+    let s = c .before .before .before .before .before .before .before .before .before .before .before .before .before .before .before .before .before .before .before .before .before .before .before .before .before .before .before .args .t1 in
     let h : length (s .header) ≡ 16 = search needs in
     let p : length (s .pending) ≡ 255 = search needs in
-    let k : length (s .kinds) ≡ 64 = search (needs, c .before .before .before .before .before .before .before .before .before .before .before .before .before .before .before .before .before .before .before .before .before .before .before .good .0 .1 .1 .1) in
-    let core = follows 53 (sym (core-length (s .core))) (c .before .before .before .before .before .before .before .before .before .before .before .before .before .before .before .before .before .put-core .ensures) (fitted (c .before .before .before .before .before .before .before .before .before .before .before .before .put-all .ensures) (search needs)) in
-    let tables = follows 69 (sym (to-header s h p)) core (fitted (c .before .before .before .before .before .before .before .put-all2 .ensures) (search needs)) in
+    let k : length (s .kinds) ≡ 64 = search (needs, c .before .before .before .before .before .before .before .before .before .before .before .before .before .before .before .before .before .before .before .before .before .before .before .before .before .before .before .good .0 .1 .1 .1) in
+    let core = follows 53 (sym (core-length (s .core))) (c .before .before .before .before .before .before .before .before .before .before .before .before .before .before .before .before .before .before .before .before .before .before .before .put-core .ensures) (fitted (c .before .before .before .before .before .before .before .before .before .before .before .before .before .before .before .before .put-all .ensures) (search needs)) in
+    let tables = follows 69 (sym (to-header s h p)) core (fitted (c .before .before .before .before .before .before .before .before .before .put-all2 .ensures) (search needs)) in
     let wrote = follows 324 (sym (to-pending s h p)) tables (fitted (c .before .before .put-all3 .ensures) (search needs)) in
-    let g = c .before .before .before .before .before .before .before .before .before .before .before .before .before .before .before .before .before .before .before .before .before .before .before .good .0 in
+    let g = c .before .before .before .before .before .before .before .before .before .before .before .before .before .before .before .before .before .before .before .before .before .before .before .before .before .before .before .good .0 in
     let typed : Typed s = record {
       announced = omega (arith, g);
       taken = omega (arith, g);
@@ -95,17 +86,14 @@ put-state-spec =
     tie.close
     (tie.spec
     put-core-requires
-    slice-aggregate-put-all
     sub-put-all
     part-put-all-start
     part-put-all-end
     put-all-requires
-    slice-aggregate-put-all-2
     sub-put-all-2
     part-put-all-start-2
     part-put-all-end-2
     put-all-requires-2
-    slice-aggregate-put-all-3
     sub-put-all-3
     part-put-all-start-3
     part-put-all-end-3

@@ -1,11 +1,7 @@
-use mathlib.Core.Path.{sym, ap₂, _∙_}
-use mathlib.Core.List.{List}
-use Prim.Native.Nat.{ℕ}
+use mathlib.Core.Path.{sym, _∙_}
 use denote.Ref.{now}
 use borrow.Author.Tests.{not-true, not-false}
-use Rattle.feed.specs.declared.feeding.State.{State}
-use Rattle.feed.specs.Feed.{answer}
-use Rattle.feed.proofs.FeedLaws.{bounds-within, feed-out, feed-small, feed-beyond, feed-taken}
+use Rattle.feed.proofs.FeedLaws.{both-is, bounds-within, feed-out, feed-small, feed-beyond, feed-taken}
 use borrow.Author.Needs.{needs}
 use Rattle.feed.proofs.feeding.feed.Statement.{statement}
 use Rattle.feed.proofs.feeding.feed.Tie as tie
@@ -40,7 +36,8 @@ same-length c = search needs
 returns-4 : tie.Need-returns-4
 returns-4 c =
     let a = c .before .before .before .before .before .before .before .before .before .before .before .before .args in
-    ap₂ (λ (s : State) (b : List ℕ). answer 0 s b) (c .before .before .take-in .ensures .0) (c .before .before .take-in .ensures .1)
+    let told = c .before .before .take-in in
+    both-is _ 0 _ _ _ (told .ensures .1 .0) (told .ensures .0) (told .ensures .1 .1)
     ∙ sym (feed-taken (a .state) (now (a .piece)) (now (a .records)) (sym (c .before .before .before .before .before .before .before .before .in-bounds .ensures) ∙ not-false _ (c .before .before .before .before .before .before .before .if1 .left)) (c .before .before .before .before .before .before .if2 .left) (c .before .before .before .before .if3 .left))
 
 pub feed-spec : {M : Type 1} → statement M

@@ -1,5 +1,5 @@
 use borrow.Author.Needs.{needs}
-use mathlib.Core.Path.{_≡_, sym, ap, _∙_}
+use mathlib.Core.Path.{_≡_, refl, sym, ap, _∙_}
 use Prim.Native.Nat.{_+_, _-_, _^_, _≤_, _<_}
 use native.Mathlib.Omega.{arith}
 use denote.Ref.{now}
@@ -138,7 +138,7 @@ returns c =
     let a = c .before .before .before .before .before .before .before .before .before .args in
     let e = held-end _ _ _ _ (c .before .loop .inv) (c .loop-test .left) in
     let register = c .before .before .before .before .before .register-after .result in
-    (ap (λ (r : Run). stateAfter r register) e ∙ ap (stateAfter (steps (runIn (a .state) (now (a .records))) (now (a .piece)))) (c .before .before .before .before .before .register-after .ensures), ap (λ (r : Run). r .buffer) e)
+    (ap (λ (r : Run). stateAfter r register) e ∙ ap (stateAfter (steps (runIn (a .state) (now (a .records))) (now (a .piece)))) (c .before .before .before .before .before .register-after .ensures), (refl, ap (λ (r : Run). r .buffer) e))
 
 pub take-in-spec : {M : Type 1} → statement M
 take-in-spec =

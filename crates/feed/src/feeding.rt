@@ -15,16 +15,17 @@ use drom::header::is_tbt3;
 use drom::header::stated_length;
 use record::Written;
 
-// The numbers of a state. `register` is CRC32's; `fill` bytes of an entry are pending.
+// The numbers of a state. `fill` bytes of an entry are pending; `register` is CRC32's. The small ones stand last, so that a copy has
+// no gap in its middle.
 pub struct Core {
     pub announced: usize,
     pub taken: usize,
-    pub refusal: u8,
     pub offset: usize,
-    pub register: u32,
     pub fill: usize,
     pub count: usize,
     pub written: usize,
+    pub register: u32,
+    pub refusal: u8,
 }
 
 pub struct State {

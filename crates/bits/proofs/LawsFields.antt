@@ -5,14 +5,15 @@ use mathlib.Core.Bool.{Bool, true, false, cond}
 use mathlib.Core.List.{List, [], _∷_, _++_, append-assoc, append-nil}
 use mathlib.Core.Path.{_≡_, refl, sym, ap, ap₂, _∙_}
 use native.Mathlib.Decide.{decLt}
-use native.Mathlib.Nat.{zero-add, suc-add, add-comm, add-mul, mul-assoc, mul-comm, pow-succ', add-sub-of-le, mod-lt, mod-eq-of-lt, div-eq-of-lt, div-add-mod', mul-add-div-right}
+use native.Mathlib.Nat.{zero-add, suc-add, add-comm, add-mul, mul-assoc, mul-comm, pow-succ', add-sub-of-le, mod-eq-of-lt}
 use native.Mathlib.Numerals.{one-add}
 use native.Mathlib.Omega.{arith}
 use borrow.Author.Tests.{leb-true, leb-false, eqb-true}
 use lib.Dec.{leb, eqb}
 use lib.ListN.{length, getD, take, drop, length-append, length-take, List·getD-eq-default}
-use lib.Pow.{mod-pow-add, shr-shr, pow-pos}
+use lib.Pow.{mod-pow-add, shr-shr}
 use lib.Seq.{getD-take, getD-drop}
+use Rattle.bits.specs.Bits.{Bytes}
 use Rattle.bits.specs.Fields.{Field, _∶_, byteFields, bitsOf, allBits, gather, pack}
 
 -- Two lists of which heads and tails are equal: `pack-run _ ∙ cons (omega arith) (cons (omega arith) refl)` shows two bytes.
@@ -159,40 +160,12 @@ pub widths-append : (fs gs : List Field) → widths (fs ++ gs) ≡ widths fs + w
 widths-append [] gs = omega arith
 widths-append (x ∶ w ∷ fs) gs = omega (arith, widths-append fs gs)
 
--- ---- a field, and two
+-- ---- no fields, and whole bytes
 
 -- No fields make no bytes.
 pub pack-nil : pack [] ≡ []
 unfolding pack allBits gather
 pack-nil = refl
-
--- A field is its high bits, and then its low bits.
-pub pack-split : (x a b : ℕ) (fs : List Field) → pack (x ∶ (a + b) ∷ fs) ≡ pack (x / 2 ^ b ∶ a ∷ x ∶ b ∷ fs)
-unfolding pack allBits
-pack-split x a b fs =
-    ap (gather 0 7) (ap (λ (l : List ℕ). l ++ allBits fs) (bits-split a b x) ∙ append-assoc (bitsOf (x / 2 ^ b) a) (bitsOf x b) (allBits fs))
-
--- what stands above the low bits does not count
-bits-above : (x y w : ℕ) → bitsOf (x * 2 ^ w + y) w ≡ bitsOf y w
-unfolding bitsOf
-bits-above x y zero = refl
-bits-above x y (suc w) =
-    let d : (2 * x * 2 ^ w + y) / 2 ^ w ≡ 2 * x + y / 2 ^ w = mul-add-div-right (pow-pos w) (2 * x) y in
-    rw (double x w) (cons (omega arith) (bits-above (2 * x) y w))
-
-bits-cut : (x y w : ℕ) → bitsOf (x * 2 ^ w + y % 2 ^ w) w ≡ bitsOf y w
-bits-cut x y w =
-    bits-above x (y % 2 ^ w) w ∙ sym (bits-above (y / 2 ^ w) (y % 2 ^ w) w) ∙ ap (λ (k : ℕ). bitsOf k w) (div-add-mod' y (2 ^ w))
-
--- Two neighbouring fields are one wider field.
-pub pack-join : (x a y b : ℕ) (fs : List Field) → pack (x ∶ a ∷ y ∶ b ∷ fs) ≡ pack ((x * 2 ^ b + y % 2 ^ b) ∶ (a + b) ∷ fs)
-unfolding pack allBits
-pack-join x a y b fs =
-    let s : ℕ = x * 2 ^ b + y % 2 ^ b in
-    let high : s / 2 ^ b ≡ x = mul-add-div-right (pow-pos b) x (y % 2 ^ b) ∙ rw (div-eq-of-lt (mod-lt y (pow-pos b))) (omega arith) in
-    sym (pack-split s a b fs ∙ ap₂ (λ (l m : List ℕ). gather 0 7 (l ++ (m ++ allBits fs))) (ap (λ (k : ℕ). bitsOf k a) high) (bits-cut x y b))
-
--- ---- whole bytes
 
 -- A field of eight bits in front is that byte.
 pub pack-byte : (x : ℕ) (fs : List Field) → pack (x ∶ 8 ∷ fs) ≡ x % 256 ∷ pack fs
@@ -201,10 +174,6 @@ pack-byte x fs = full 7 0 x (allBits fs) ∙ cons (omega arith) refl
 
 pub pack-front : (x : ℕ) (fs : List Field) → x < 256 → pack (x ∶ 8 ∷ fs) ≡ x ∷ pack fs
 pack-front x fs h = pack-byte x fs ∙ cons (mod-eq-of-lt h) refl
-
--- A list of bytes.
-abbrev pub Bytes : List ℕ → Type 0
-Bytes l = (i : ℕ) → getD l i 0 < 256
 
 -- Whole bytes in front are those bytes.
 pub pack-bytes : (l : List ℕ) → Bytes l → (fs : List Field) → pack (byteFields l ++ fs) ≡ l ++ pack fs

@@ -8,8 +8,9 @@ use native.Mathlib.Omega.{arith}
 use borrow.Author.Tests.{le-leb, lt-leb}
 use borrow.Rule.Slice.PartAt.{part-to-end}
 use lib.ListN.{length, take, drop, set, getD, length-append, length-drop, drop-of-length-le}
-use lib.Seq.{sets, sets-eq, drop-at, length-take-le, take-suc, take-append-seam, drop-append-seam, drop-drop, drop-cons, set-at, append-snoc}
+use lib.Seq.{sets, sets-eq, take-suc, take-append-seam, drop-append-seam, drop-drop, drop-cons, set-at, append-snoc}
 use Rattle.bits.specs.Front.{onto, Wrote, Put}
+use Rattle.bits.proofs.OneAnswer.{one-answer}
 
 -- ---- one writer
 
@@ -23,13 +24,9 @@ wrote-none = record { holds = refl; counts = refl }
 pub fitted : {p before after : List ℕ} {n : ℕ} → Put p before after n → length p ≤ length before → Wrote p before after n
 fitted {p} {before} w h = rw (le-leb (length p) (length before) h) at (w .wrote)
 
--- A writer that has no room writes nothing.
-pub unfitted : {p before after : List ℕ} {n : ℕ} → Put p before after n → length before < length p → Wrote [] before after n
-unfitted {p} {before} w h = rw (lt-leb (length p) (length before) h) at (w .wrote)
-
 -- No second answer meets the promise.
 pub put-once : {p before after after' : List ℕ} {n n' : ℕ} → Put p before after n → Put p before after' n' → (after ≡ after') × (n ≡ n')
-put-once v w = (v .wrote .holds ∙ sym (w .wrote .holds), v .wrote .counts ∙ sym (w .wrote .counts))
+put-once v w = (one-answer (v .wrote .holds) (w .wrote .holds), one-answer (v .wrote .counts) (w .wrote .counts))
 
 -- How a writer keeps its promise: with room by writing all, and without by writing nothing.
 pub puts : {p before after : List ℕ} {n : ℕ} → length p ≤ length before → Wrote p before after n → Put p before after n
@@ -87,22 +84,6 @@ follows {p} {q} {before} {out} {part} a e w v = record {
       ∙ behind p q before;
   counts = ap₂ (λ (i j : ℕ). i + j) e (v .counts) ∙ sym (length-append p q);
 }
-
--- The other order: a writer on the part from `a` on, and then one that writes `a` bytes at the front.
-pub precedes : {p q before part after : List ℕ} {n m : ℕ} (a : ℕ) → a ≡ length p → a ≤ length before
-    → Wrote q (take (length before - a) (drop a before)) part m
-    → Wrote p (take a before ++ (part ++ drop (length before - a) (drop a before))) after n
-    → Wrote (p ++ q) before after (a + m)
-precedes {p} {q} {before} {part} {after} a e h v w =
-    let front : length (take a before) ≡ length p = length-take-le a before h ∙ e in
-    let at : part ≡ onto q (drop a before) = v .holds ∙ ap (onto q) (part-to-end before a) in
-    record {
-      holds =
-          w .holds
-          ∙ ap (λ (l : List ℕ). p ++ l) (drop-at (take a before) (part ++ drop (length before - a) (drop a before)) (length p) front)
-          ∙ rw (none-left before a, append-nil, at) (simp (e, drop-drop, append-assoc, length-append));
-      counts = ap₂ (λ (i j : ℕ). i + j) e (v .counts) ∙ sym (length-append p q);
-    }
 
 -- ---- what was written is within the buffer
 

@@ -2,3 +2,4 @@
 pub mod Examples
 pub mod LawsFields
 pub mod LawsFront
+pub mod OneAnswer

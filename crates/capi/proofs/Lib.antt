@@ -4,3 +4,4 @@ pub mod StateLaws
 pub mod Examples
 pub mod PlaceLaws
 pub mod ListingLaws
+pub mod OneAnswer

@@ -12,7 +12,7 @@ use Rattle.feed.specs.Feed.{Answer, openOf, feedOf, finishOf}
 use Rattle.capi.specs.Report.{reportSize, reportBytes}
 use Rattle.capi.specs.State.{stateSize, stateBytes, stateIn}
 
--- a report or a state that is lent too few bytes: then nothing is read or written
+-- the answer where a report, a state or a place is lent too few bytes: then nothing is read or written
 abbrev pub noRoom : ℕ
 noRoom = 255
 

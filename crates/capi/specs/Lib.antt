@@ -1,3 +1,4 @@
+-- What the calls of C and Rust answer and leave: the layouts of a report, a state and a place, and the calls over them.
 pub mod Numbers
 pub mod Bytes
 pub mod Report

@@ -10,6 +10,7 @@ use Rattle.bits.specs.Front.{onto}
 use Rattle.drom.specs.Header.{bodyStart}
 use Rattle.drom.specs.Parts.{headerPart, bodyPart, wholePart, entryPart, entryOffset}
 use Rattle.capi.specs.Bytes.{numbersBytes, numberAt}
+use Rattle.capi.specs.Calls.{noRoom}
 
 -- where a part starts in the DROM, and how many bytes it has
 pub record Place : Type 0 where
@@ -52,9 +53,8 @@ placeIn bytes = record { offset = numberAt 0 8 bytes; size = numberAt 8 8 bytes 
 abbrev pub noPlace : List ℕ → Bool
 noPlace lent = ltb (length lent) placeSize
 
--- 255 where too few bytes are lent, and then nothing is written
 abbrev pub placeAnswer : List ℕ → ℕ
-placeAnswer lent = cond (noPlace lent) 255 0
+placeAnswer lent = cond (noPlace lent) noRoom 0
 
 unfoldable pub placeLeaves : Place → List ℕ → List ℕ
 placeLeaves place lent = cond (noPlace lent) lent (onto (placeBytes place) lent)

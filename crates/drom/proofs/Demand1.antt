@@ -1,6 +1,6 @@
 -- Demand 1, of a whole DROM: after a refusal the records before it stay, and every other byte of the record buffer is as lent (`records-stay`,
 -- `others-stay`); a call refused for its list, its buffer or its header changes nothing (`nothing-written`). 16,368 bytes always suffice
--- (`records-fit`), and a promise of our form has one answer (`one-answer`).
+-- (`records-fit`), and no second report and buffer meet the promise of `read` (`read-one`).
 -- Assumes nothing.
 use mathlib.Core.Path.{_≡_, refl, sym, ap, _∙_}
 use mathlib.Core.Bool.{Bool, true, false, cond}
@@ -12,12 +12,14 @@ use borrow.Author.Tests.{eqb-true}
 use lib.Dec.{eqb}
 use lib.ListN.{length, getD, take, drop, length-append, length-drop}
 use lib.Seq.{take-append-seam, getD-append-add, getD-drop, length-take-le}
+use Rattle.bits.proofs.OneAnswer.{one-answer}
 use Rattle.entry.specs.declared.parse.Decoded.{Decoded}
 use Rattle.entry.specs.declared.parse.Decoded.the-variants.{Is, Refused}
 use Rattle.entry.specs.Adapters.{kindIn}
 use Rattle.entry.specs.Decode.{numberOf}
 use Rattle.record.specs.Record.{recordOf}
 use Rattle.record.proofs.WriteLaws.{written-room}
+use Rattle.drom.specs.declared.reader.Report.{Report}
 use Rattle.drom.specs.Header.{bodyStart}
 use Rattle.drom.specs.Walk.{frontOf, andThen, walkOf}
 use Rattle.drom.specs.Report.{refusalOf, walkIn, reportOf, recordsOf, leavesOf}
@@ -97,6 +99,9 @@ module _ (list drom buffer : List ℕ) where
   pub nothing-written : (refusalOf list drom (length buffer) ≡ 0 → ⊥) → leavesOf list drom buffer ≡ buffer
   nothing-written = leaves-refused list drom buffer
 
--- A promise that gives a call's answer, and what it leaves, as definitions of what it was lent: no second answer meets it.
-pub one-answer : {A B : Type 0} {f : A} {g : B} {r s : A} {b c : B} → (r ≡ f) × (b ≡ g) → (s ≡ f) × (c ≡ g) → (r ≡ s) × (b ≡ c)
-one-answer p q = (p .0 ∙ sym (q .0), p .1 ∙ sym (q .1))
+-- two reports and buffers that meet the promise of `read` are the same
+pub read-one : (list drom before : List ℕ) {r s : Report} {after other : List ℕ}
+    → (r ≡ reportOf list drom (length before)) × (after ≡ leavesOf list drom before)
+    → (s ≡ reportOf list drom (length before)) × (other ≡ leavesOf list drom before)
+    → (r ≡ s) × (after ≡ other)
+read-one list drom before p q = (one-answer (p .0) (q .0), one-answer (p .1) (q .1))

@@ -6,7 +6,7 @@ use mathlib.Core.Path.{_≡_, refl, sym, ap, subst, _∙_}
 use mathlib.Core.Bool.{Bool, true, false, cond}
 use mathlib.Core.List.{List, [], _∷_, _++_, append-assoc, append-nil, flatten}
 use mathlib.Core.Logic.{_⊎_, inl, inr, _↔_}
-use Prim.Native.Nat.{ℕ, zero, suc, _+_, _-_, _<_, _≤_}
+use Prim.Native.Nat.{ℕ, zero, suc, _+_, _<_, _≤_}
 use native.Mathlib.Nat.{le-refl, not-suc-le-zero}
 use native.Mathlib.Omega.{arith}
 use borrow.Author.Tests.{ne-eqb, le-ltb}
@@ -18,7 +18,7 @@ use Rattle.entry.specs.declared.parse.Decoded.{Decoded}
 use Rattle.entry.specs.declared.parse.Decoded.the-variants.{Is, Refused}
 use Rattle.entry.specs.Decode.{numberOf}
 use Rattle.entry.proofs.FitLaws.{fit-decodes, decoded-fit, refused-number}
-use Rattle.drom.specs.Walk.{Walked, entryOf, frontOf, end, andThen, walkOf}
+use Rattle.drom.specs.Walk.{Walked, entryOf, frontOf, end, stop, andThen, walkOf}
 use Rattle.drom.specs.Cut.{Entry, Cut, none, next, recordsAt}
 use Rattle.drom.proofs.Joined.{flatten-append}
 use Rattle.drom.proofs.WalkLaws.{front-inside, walk-end, walk-on}
@@ -104,7 +104,7 @@ module _ (kinds : ℕ → ℕ) where
   stops-here at = record { rest = []; split = refl; cut = none; why = inl (refl, refl, refl) }
 
   module _ (at L : ℕ) (bs : List ℕ) where
-    refused-here : (n : ℕ) → frontOf kinds L (L ∷ bs) ≡ Refused n → Stops at (L ∷ bs) (record { entries = []; records = []; number = n; offset = at })
+    refused-here : (n : ℕ) → frontOf kinds L (L ∷ bs) ≡ Refused n → Stops at (L ∷ bs) (stop n at)
     unfolding flatten
     refused-here n f =
         let e : at ≡ at + 0 = omega arith in

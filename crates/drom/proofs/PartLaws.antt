@@ -1,18 +1,21 @@
--- The n-th accepted entry and its place, along the walk; and `entry-there`, that the bytes at an entry's place are the entry.
+-- The n-th accepted entry and its place, along the walk: the bytes at an entry's place are the entry (`entry-there`); there are as many
+-- entries as records (`as-many`), so that "an n not below the record count .. gives the empty part" (`entry-beyond`).
 -- Assumes nothing.
 use mathlib.Core.Path.{_≡_, refl, sym, ap, _∙_}
 use mathlib.Core.Bool.{Bool, true, false, cond}
-use mathlib.Core.List.{List, []}
+use mathlib.Core.List.{List, [], _∷_}
 use mathlib.Core.Logic.{_⊎_, inl, inr, ⊎-elim}
 use Prim.Native.Nat.{ℕ, zero, suc, _+_, _-_, _%_, _<_, _≤_}
 use native.Mathlib.Omega.{arith}
 use borrow.Author.Tests.{eqb-true}
 use lib.Dec.{eqb}
-use lib.ListN.{length, take, drop, getD, length-drop}
+use lib.ListN.{length, take, drop, getD, length-drop, List·getD-eq-default}
 use lib.Seq.{length-take-le}
+use Rattle.entry.specs.declared.parse.Decoded.{Decoded}
+use Rattle.entry.specs.declared.parse.Decoded.the-variants.{Is, Refused}
 use Rattle.entry.specs.Adapters.{kindIn}
 use Rattle.drom.specs.Header.{bodyStart, headerRefusal}
-use Rattle.drom.specs.Walk.{pieceAt, walkOf}
+use Rattle.drom.specs.Walk.{Walked, frontOf, pieceAt, andThen, walkBy, walkOf}
 use Rattle.drom.specs.Report.{walkIn}
 use Rattle.drom.specs.Parts.{entryPart, offsetIn, entryOffset}
 use Rattle.drom.proofs.HeaderLaws.{sizes}
@@ -70,6 +73,27 @@ module _ (kinds : ℕ → ℕ) (drom : List ℕ) where
       (λ (p : Passes kinds drom at (at + getD drom at 0)). rw (offset-next p n, p .entries) (nth-placed n (at + getD drom at 0) (omega (arith, p .on))))
       (stepped kinds drom at)
 
+-- ---- as many entries as records
+
+module _ (kinds : ℕ → ℕ) where
+  many-then : (at : ℕ) (bs : List ℕ) (d : Decoded) (w : Walked) → length (w .entries) ≡ length (w .records)
+      → length (andThen at bs d w .entries) ≡ length (andThen at bs d w .records)
+  many-then at bs (Is e) w h = ap suc h
+  many-then at bs (Refused n) w h = refl
+
+  many-by : (turns at : ℕ) (bs : List ℕ) → length (walkBy turns kinds at bs .entries) ≡ length (walkBy turns kinds at bs .records)
+  unfolding walkBy
+  many-by zero at bs = refl
+  many-by (suc turns) at [] = refl
+  many-by (suc turns) at (L ∷ bs) =
+      many-then at (take L (L ∷ bs)) (frontOf kinds L (L ∷ bs)) (walkBy turns kinds (at + L) (drop L (L ∷ bs))) (many-by turns (at + L) (drop L (L ∷ bs)))
+
+  pub as-many : (at : ℕ) (bs : List ℕ) → length (walkOf kinds at bs .entries) ≡ length (walkOf kinds at bs .records)
+  unfolding walkOf
+  as-many at bs = many-by (length bs) at bs
+
+-- ---- the n-th accepted entry
+
 module _ (list drom : List ℕ) (n : ℕ) where
   entry-placed : Placed drom (entryPart list drom n) (entryOffset list drom n)
   entry-placed = go (eqb (length list % 2) 1) (eqb (headerRefusal drom) 0) refl
@@ -92,3 +116,14 @@ module _ (list drom : List ℕ) (n : ℕ) where
   -- the bytes at an entry's place are the entry
   pub entry-there : take (length (entryPart list drom n)) (drop (entryOffset list drom n) drom) ≡ entryPart list drom n
   entry-there = ⊎-elim (λ p. rw (p .1)) (λ s. rw (s .is) (ap (λ (k : ℕ). take k (drop (entryOffset list drom n) drom)) (piece-length drom (entryOffset list drom n) (omega (arith, s .before)) (s .inside)))) entry-placed
+
+  -- an n not below the record count has none
+  pub entry-beyond : length (walkIn (kindIn list) drom .records) ≤ n → entryPart list drom n ≡ []
+  entry-beyond h = go (eqb (length list % 2) 1) (eqb (headerRefusal drom) 0)
+    where
+      go : (odd good : Bool) → cond odd [] (cond good (getD (walkIn (kindIn list) drom .entries) n []) []) ≡ []
+      go true good = refl
+      go false false = refl
+      go false true =
+          List·getD-eq-default (walkIn (kindIn list) drom .entries) [] {n = n}
+          (omega (arith, as-many (kindIn list) (bodyStart drom) (drop (bodyStart drom) drom)))

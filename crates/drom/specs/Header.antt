@@ -49,10 +49,14 @@ abbrev pub openTests : List ℕ → ℕ → ℕ → List (Bool × ℕ)
 openTests list size room =
     (eqb (length list % 2) 1, oddList) ∷ (ltb room (roomFor size), smallBuffer) ∷ (ltb size 16, tooFew) ∷ []
 
-abbrev pub headerTests : List ℕ → List (Bool × ℕ)
-headerTests drom =
-    (not (eqb (lengthIn drom + 13) (length drom)), wrongLength) ∷ (isTbt3 drom && ltb (length drom) 22, shortTbt3) ∷ []
+abbrev pub headerTests : ℕ → List ℕ → List (Bool × ℕ)
+headerTests size drom =
+    (not (eqb (lengthIn drom + 13) size), wrongLength) ∷ (isTbt3 drom && ltb size 22, shortTbt3) ∷ []
 
--- why a header is refused: 1, then 2, then 3; 0 if it is accepted
+-- the number of 16 header bytes of a DROM of so many bytes: 2, then 3; 0 if they are accepted
+abbrev pub headerNumber : ℕ → List ℕ → ℕ
+headerNumber size drom = firstOf (headerTests size drom)
+
+-- why the header of a whole DROM is refused: 1, then 2, then 3; 0 if it is accepted
 abbrev pub headerRefusal : List ℕ → ℕ
-headerRefusal drom = firstOf ((ltb (length drom) 16, tooFew) ∷ headerTests drom)
+headerRefusal drom = firstOf ((ltb (length drom) 16, tooFew) ∷ headerTests (length drom) drom)

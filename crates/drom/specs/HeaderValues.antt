@@ -1,5 +1,5 @@
--- The values of a header, as a reader that has only its first 16 bytes can tell them. CRC8 and UUID are "reported absent (0)" where the
--- version is not TBT3's.
+-- Document 01, "Header": its values as they are reported, which the first 16 bytes tell. "Only TBT3 has CRC8 and UUID; otherwise they are
+-- reported absent (0)".
 -- Assumes nothing.
 use mathlib.Core.Bool.{false, cond}
 use mathlib.Core.List.{List}

@@ -1,5 +1,5 @@
--- Document 01, "Numbers given back": those of a whole DROM (8 to 11 are an entry's own: crate entry, specs/Decode.antt),
--- and which of several is told.
+-- Document 01, "Numbers given back": those of a whole DROM, and which of several is told. 8 to 11 are an entry's own (crate entry,
+-- specs/Decode.antt), and 12, 13 and 18 are feeding's (crate feed, specs/Feed.antt).
 -- Assumes nothing.
 use mathlib.Core.Bool.{Bool, cond}
 use mathlib.Core.List.{List, [], _∷_}

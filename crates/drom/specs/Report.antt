@@ -1,7 +1,7 @@
 -- Document 01, "Numbers given back": the report of a whole DROM, for a list, the DROM's bytes and the size of the record buffer lent;
 -- and what the buffer is then.
 -- Assumes nothing.
-use mathlib.Core.Bool.{false, cond}
+use mathlib.Core.Bool.{Bool, false, cond}
 use mathlib.Core.List.{List, [], _++_, flatten}
 use Prim.Native.Nat.{ℕ}
 use lib.Dec.{eqb}
@@ -9,15 +9,17 @@ use lib.ListN.{length, drop}
 use Rattle.bits.specs.Front.{onto}
 use Rattle.entry.specs.Adapters.{kindIn}
 use Rattle.drom.specs.Numbers.{firstOf}
-use Rattle.drom.specs.Header.{crc8In, uuidIn, crc32In, versionIn, lengthIn, isTbt3, bodyStart, crc8Right, crc32Right, openTests, headerTests}
+use Rattle.drom.specs.Header.{bodyStart, crc32Right, openTests, headerTests}
+use Rattle.drom.specs.HeaderValues.{valuesIn}
 use Rattle.drom.specs.Walk.{Walked, walkOf}
+use Rattle.drom.specs.declared.header.HeaderValues.{HeaderValues}
 use Rattle.drom.specs.declared.reader.Report.{Report}
 
 -- "Order for a whole DROM: 5, 4, 1, 2, 3, then entry by entry ..": the number before the entries, or 0
 abbrev pub refusalOf : List ℕ → List ℕ → ℕ → ℕ
-refusalOf list drom room = firstOf (openTests list (length drom) room ++ headerTests drom)
+refusalOf list drom room = firstOf (openTests list (length drom) room ++ headerTests (length drom) drom)
 
--- "For 1 to 5 .. all but the number is zero or no."
+-- "For 1 to 5, 13 and 18 all but the number is zero or no."
 abbrev pub refusedReport : ℕ → Report
 refusedReport n =
     record {
@@ -35,24 +37,28 @@ refusedReport n =
       bytes = 0;
     }
 
+-- the report of an accepted header's values, CRC32's verdict, a refusal's number and offset, and how many records and record bytes there are
+abbrev pub reportWith : HeaderValues → Bool → ℕ → ℕ → ℕ → ℕ → Report
+reportWith h crc32good number offset records bytes =
+    record {
+      number = number;
+      offset = offset;
+      version = h .version;
+      length = h .length;
+      start = h .start;
+      crc32 = h .crc32;
+      crc32good = crc32good;
+      crc8 = h .crc8;
+      uuid = h .uuid;
+      crc8good = h .crc8good;
+      records = records;
+      bytes = bytes;
+    }
+
 -- "For 6 to 11 the header values and verdicts are reported, and the earlier records stay and are counted."
--- "Only TBT3 has CRC8 and UUID; otherwise they are reported absent (0) .."
 abbrev pub walkedReport : List ℕ → Walked → Report
 walkedReport drom walked =
-    record {
-      number = walked .number;
-      offset = walked .offset;
-      version = versionIn drom;
-      length = lengthIn drom;
-      start = bodyStart drom;
-      crc32 = crc32In drom;
-      crc32good = crc32Right drom;
-      crc8 = cond (isTbt3 drom) (crc8In drom) 0;
-      uuid = cond (isTbt3 drom) (uuidIn drom) 0;
-      crc8good = crc8Right drom;
-      records = length (walked .records);
-      bytes = length (flatten (walked .records));
-    }
+    reportWith (valuesIn drom) (crc32Right drom) (walked .number) (walked .offset) (length (walked .records)) (length (flatten (walked .records)))
 
 -- the walk of a DROM whose header is accepted
 abbrev pub walkIn : (ℕ → ℕ) → List ℕ → Walked

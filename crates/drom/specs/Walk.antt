@@ -40,14 +40,18 @@ abbrev pub isEntry : Decoded → Bool
 isEntry (Is e) = true
 isEntry (Refused n) = false
 
+-- where the bytes end, and where something is refused
 abbrev pub end : Walked
 end = record { entries = []; records = []; number = accepted; offset = 0 }
+
+abbrev pub stop : ℕ → ℕ → Walked
+stop n at = record { entries = []; records = []; number = n; offset = at }
 
 -- an entry at an offset, and the walk after it
 abbrev pub andThen : ℕ → List ℕ → Decoded → Walked → Walked
 andThen at bs (Is e) rest =
     record { entries = bs ∷ rest .entries; records = recordOf at bs e ∷ rest .records; number = rest .number; offset = rest .offset }
-andThen at bs (Refused n) rest = record { entries = []; records = []; number = n; offset = at }
+andThen at bs (Refused n) rest = stop n at
 
 -- The walk from an offset on over the bytes that stand there. An entry takes a byte at least, so as many turns as there are bytes
 -- are enough: proofs/WalkLaws.antt has the equations without turns (walk-end, walk-on).

@@ -4,8 +4,7 @@ ghost use Prim.Native.Nat.{_≤_};
 ghost use mathlib.Core.Bool.{cond};
 ghost use lib.Dec.{eqb};
 ghost use lib.ListN.{length};
-ghost use Rattle.drom.specs.Numbers.{firstOf};
-ghost use Rattle.drom.specs.Header.{crc8In, uuidIn, crc32In, lengthIn, isTbt3, bodyStart, crc8Right, crc32Right, headerTests, headerRefusal};
+ghost use Rattle.drom.specs.Header.{crc8In, uuidIn, crc32In, lengthIn, isTbt3, bodyStart, crc8Right, crc32Right, headerNumber, headerRefusal};
 ghost use Rattle.drom.specs.Report.{refusalOf};
 ghost use Rattle.drom.specs.HeaderValues.{headerValues};
 
@@ -28,16 +27,15 @@ pub fn body_start(drom: &[u8]) -> usize
     if is_tbt3(drom) { 22 } else { 16 }
 }
 
-// 2, then 3, or 0.
-pub(crate) fn header_refusal(drom: &[u8]) -> u8
-    requires { ⌜ 16 ≤ length (now drom) ⌝ }
-    ensures { λ r. ⌜ r ≡ firstOf (headerTests (now (drom .entry))) ⌝ }
+// The number of the header of a DROM of this size: 2, then 3, or 0. Its first 16 bytes suffice.
+pub fn header_number(drom: &[u8], size: usize) -> u8
+    ensures { λ r. ⌜ r ≡ headerNumber size (now (drom .entry)) ⌝ }
 {
-    if stated_length(drom) + 13 != drom.len() {
+    if stated_length(drom) + 13 != size {
         return 2;
     }
     if is_tbt3(drom) {
-        if drom.len() < 22 {
+        if size < 22 {
             return 3;
         }
         return 0;
@@ -51,7 +49,7 @@ pub(crate) fn is_accepted(drom: &[u8]) -> bool
     if drom.len() < 16 {
         return false;
     }
-    header_refusal(drom) == 0
+    header_number(drom, drom.len()) == 0
 }
 
 // 5, 4, 1, then the header's own, or 0.
@@ -67,7 +65,7 @@ pub(crate) fn refusal(list: &[u8], drom: &[u8], room: usize) -> u8
     if drom.len() < 16 {
         return 1;
     }
-    header_refusal(drom)
+    header_number(drom, drom.len())
 }
 
 pub(crate) fn stored_crc32(drom: &[u8]) -> u32

@@ -13,3 +13,4 @@ pub use parts::head;
 pub use parts::nth_entry;
 pub use reader::Report;
 pub use reader::read;
+pub use reader::refused_report;

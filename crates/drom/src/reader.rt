@@ -24,7 +24,8 @@ pub struct Report {
     pub bytes: usize,
 }
 
-fn refused(number: u8) -> Report
+// The report of a refusal that tells nothing but its number: 1 to 5, and feeding's 13 and 18.
+pub fn refused_report(number: u8) -> Report
     ensures { λ r. ⌜ r ≡ refusedReport number ⌝ }
 {
     Report {
@@ -50,7 +51,7 @@ pub fn read(list: &[u8], drom: &[u8], out: &mut [u8]) -> Report
 {
     let number = refusal(list, drom, out.len());
     if number != 0 {
-        return refused(number);
+        return refused_report(number);
     }
     let h = header_values(drom);
     let start = h.start;

@@ -5,7 +5,8 @@ use mathlib.Core.List.{List, [], _∷_}
 use Prim.Native.Nat.{ℕ}
 use lib.Dec.{eqb}
 
--- "1 Lane, 2 DisplayPort in, 3 DisplayPort out, 4 PCIe up, 5 PCIe down, anything else other"
+-- "1 Lane, 2 DisplayPort in, 3 DisplayPort out, 4 PCIe up, 5 PCIe down, anything else other" (specs/Rows.antt has the rows of these kinds).
+-- This one stands for a number that is not listed.
 abbrev pub other : ℕ
 other = 0
 

@@ -24,7 +24,7 @@ modeOf pattern = cond (eqb pattern 3) (negsuc 0) (pos pattern)
 abbrev pub rateOf : ℕ → ℕ
 rateOf pattern = cond (eqb pattern 3) 0 pattern
 
--- a number's place: bits 5..0 of byte 1
+-- an adapter's number: bits 5..0 of the kind byte
 abbrev pub numberOf : List ℕ → ℕ
 numberOf bs = bits 5 0 (byte 1 bs)
 
@@ -62,16 +62,20 @@ valuesOf dptx bs =
     (cond (bit 4 (byte 3 bs)) (bits 4 0 (byte 4 bs)) 0)
 valuesOf embeddedLink bs = EmbeddedLink (bits 4 0 (byte 2 bs))
 
--- "Numbers given back", of an entry
+-- "Numbers given back", those of an entry by itself
+-- entry too short for its kind
 abbrev pub tooShort : ℕ
 tooShort = 8
 
+-- ASCII name without a zero byte
 abbrev pub noZero : ℕ
 noZero = 9
 
+-- name before that zero not UTF-8
 abbrev pub notUtf8 : ℕ
 notUtf8 = 10
 
+-- UTF-16 part of odd length
 abbrev pub oddUtf16 : ℕ
 oddUtf16 = 11
 

@@ -1,4 +1,4 @@
--- "Fit for its kind", said apart from the decoding: proofs/FitLaws.antt shows that an entry is refused exactly where it is not fit.
+-- Demand 2's "fit for its kind", said apart from the decoding: proofs/FitLaws.antt shows that an entry is refused exactly where it is not fit.
 -- Assumes nothing.
 use mathlib.Core.Path.{_≡_}
 use mathlib.Core.Bool.{false}

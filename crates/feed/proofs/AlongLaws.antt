@@ -7,6 +7,7 @@ use native.Mathlib.Omega.{arith}
 use native.Mathlib.Numerals.{add-one}
 use lib.ListN.{length, getD, take, drop, length-append, length-drop}
 use lib.Seq.{sets, take-all, take-add, take-suc, drop-cons, length-take-le, length-sets}
+use Rattle.bits.specs.Bits.{Bytes}
 use Rattle.bits.specs.Front.{onto, Put}
 use Rattle.bits.proofs.LawsFront.{put-once, puts-sets}
 use Rattle.entry.specs.declared.parse.Decoded.{Decoded}
@@ -16,9 +17,8 @@ use Rattle.record.specs.declared.write.Written.the-variants as written
 use Rattle.record.proofs.WriteLaws.{room-answer, room-leaves, answer-refused, answer-room}
 use Rattle.drom.specs.Header.{bodyStart}
 use Rattle.feed.specs.declared.feeding.Core.{Core}
-use Rattle.feed.specs.Run.{Run, run, passed, stepOf, steps}
-use Rattle.feed.specs.Bounds.{Good, Through}
-use Rattle.feed.specs.Pieces.{Bytes}
+use Rattle.feed.specs.Run.{Run, run, stepOf, steps}
+use Rattle.feed.specs.Bounds.{Good, Through, passed}
 use Rattle.feed.proofs.StepLaws.{steps-nil, steps-cons, steps-append}
 use Rattle.feed.proofs.MoveLaws.{step-moves}
 use Rattle.feed.proofs.EndLaws.{partOf, withPart, part-long, part-front}

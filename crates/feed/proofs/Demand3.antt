@@ -1,7 +1,7 @@
 -- Demand 3: "If the pieces join to the announced size, the final report and every byte of that buffer are demand 2's answer for the
 -- joined bytes" (`fed-as-whole`), for every list, announced size and buffer, and however the bytes are cut. After a refused opening a
 -- finish gives the report of every DROM of the size asked (`closed-as-whole`). "After each piece, the records are those of the entries
--- complete so far": proofs/Pieces.antt.
+-- complete so far": proofs/Pieces.antt. No second state, number, report or buffer meets the promises of feeding (`open-one`, `feed-one`, `finish-one`).
 -- Assumes nothing.
 use Prim.Native.Nat.{ℕ, _+_, _%_, _^_, _≤_, _<_}
 use mathlib.Core.Path.{_≡_, refl, sym, ap, subst, _∙_}
@@ -12,17 +12,21 @@ use native.Mathlib.Omega.{arith}
 use lib.ListN.{length, replicate, length-replicate}
 use lib.Dec.{ltb, eqb}
 use borrow.Author.Tests.{eqb-true, eqb-false}
+use Rattle.bits.specs.Bits.{Bytes}
 use Rattle.bits.specs.Front.{onto}
+use Rattle.bits.proofs.OneAnswer.{one-answer}
 use Rattle.entry.specs.Adapters.{kindIn}
+use Rattle.drom.specs.declared.reader.Report.{Report}
 use Rattle.drom.specs.Numbers.{firstOf}
-use Rattle.drom.specs.Header.{lengthIn, isTbt3, openTests, headerTests}
-use Rattle.drom.specs.Walk.{Walked}
+use Rattle.drom.specs.Header.{lengthIn, isTbt3, openTests, headerTests, headerNumber}
+use Rattle.drom.specs.Walk.{Walked, stop}
 use Rattle.drom.specs.Report.{refusalOf, refusedReport, walkIn, reportOf, leavesOf}
 use Rattle.drom.proofs.ReportLaws.{report-walked, report-refused, leaves-walked, leaves-refused}
 use Rattle.feed.specs.declared.feeding.State.{State}
-use Rattle.feed.specs.Feed.{fresh, openOf, inBounds, runIn, Answer, answer, told, finishOf}
-use Rattle.feed.specs.Prefix.{stop, headerNumber, prefixOf}
-use Rattle.feed.specs.Pieces.{Bytes, feedMany, Told}
+use Rattle.feed.specs.declared.feeding.Fed.{Fed}
+use Rattle.feed.specs.Feed.{fresh, openOf, inBounds, runIn, Answer, answer, both, feedOf, told, finishOf}
+use Rattle.feed.specs.Prefix.{prefixOf}
+use Rattle.feed.specs.Pieces.{feedMany, Told}
 use Rattle.feed.specs.Pieces.Left.{opened}
 use Rattle.feed.proofs.FeedLaws.{in-of}
 use Rattle.feed.proofs.Never.{fresh-sound, left-bounds}
@@ -37,7 +41,7 @@ module _ (list drom : List ℕ) (room : ℕ) where
   refusal-closed = go (eqb (length list % 2) 1) (ltb room 16368) (ltb (length drom) 16)
     where
       go : (o s f : Bool) → (firstOf ((o, 5) ∷ (s, 4) ∷ (f, 1) ∷ []) ≡ 0 → ⊥)
-          → firstOf ((o, 5) ∷ (s, 4) ∷ (f, 1) ∷ headerTests drom) ≡ firstOf ((o, 5) ∷ (s, 4) ∷ (f, 1) ∷ [])
+          → firstOf ((o, 5) ∷ (s, 4) ∷ (f, 1) ∷ headerTests (length drom) drom) ≡ firstOf ((o, 5) ∷ (s, 4) ∷ (f, 1) ∷ [])
       go true s f h = refl
       go false true f h = refl
       go false false true h = refl
@@ -47,7 +51,7 @@ module _ (list drom : List ℕ) (room : ℕ) where
   refusal-open = go (eqb (length list % 2) 1) (ltb room 16368) (ltb (length drom) 16)
     where
       go : (o s f : Bool) → firstOf ((o, 5) ∷ (s, 4) ∷ (f, 1) ∷ []) ≡ 0
-          → firstOf ((o, 5) ∷ (s, 4) ∷ (f, 1) ∷ headerTests drom) ≡ headerNumber (length drom) drom
+          → firstOf ((o, 5) ∷ (s, 4) ∷ (f, 1) ∷ headerTests (length drom) drom) ≡ headerNumber (length drom) drom
       go true s f h = absurd (omega arith)
       go false true f h = absurd (omega arith)
       go false false true h = absurd (omega arith)
@@ -174,3 +178,15 @@ fed-as-whole list size ps b h k n =
     subst (λ (m : ℕ). (finishOf (feedMany (answer 0 (openOf list m (length b)) b) ps .fed .state) ≡ reportOf list (flatten ps) (length b))
     × (feedMany (answer 0 (openOf list m (length b)) b) ps .buffer ≡ leavesOf list (flatten ps) b)) n
     (whole list ps b (omega arith) k)
+
+-- ---- one answer: what meets the promise of `open`, of `feed` or of `finish` is the same
+
+pub open-one : (list : List ℕ) (size room : ℕ) {s t : State} → s ≡ openOf list size room → t ≡ openOf list size room → s ≡ t
+open-one list size room = one-answer
+
+pub feed-one : (s : State) (piece before : List ℕ) {r t : Fed} {after other : List ℕ}
+    → both r after ≡ feedOf s piece before → both t other ≡ feedOf s piece before → (r ≡ t) × (after ≡ other)
+feed-one s piece before p q = let e = one-answer p q in (ap (λ (a : Answer). a .fed) e, ap (λ (a : Answer). a .buffer) e)
+
+pub finish-one : (s : State) {r t : Report} → r ≡ finishOf s → t ≡ finishOf s → r ≡ t
+finish-one s = one-answer

@@ -1,4 +1,4 @@
--- What a finish gives, case by case (`finish-missing`, `finish-refused`, `finish-told`); and that it tells what a whole reading tells,
+-- What a finish gives, case by case (`finish-outside`, `finish-missing`, `finish-refused`, `finish-told`); and that it tells what a whole reading tells,
 -- where the header kept is the DROM's first 16 bytes and the register came over all of it (`told-walked`).
 -- Assumes nothing.
 use Prim.Native.Nat.{ℕ, _≤_, _<_}
@@ -13,10 +13,11 @@ use lib.Dec.{leb, eqb}
 use borrow.Author.Tests.{lt-ltb, le-ltb, le-leb, lt-leb}
 use Rattle.bits.specs.Bits.{byte, le4, le8}
 use Rattle.util.specs.Crc.{start32, final32, crcOf8}
-use Rattle.drom.specs.declared.reader.Report.{Report}
+use Rattle.drom.specs.declared.header.HeaderValues.{HeaderValues}
 use Rattle.drom.specs.Header.{crc8In, uuidIn, crc32In, versionIn, lengthIn, isTbt3, bodyStart, crc8Right, crc32Right}
 use Rattle.drom.specs.Walk.{Walked}
-use Rattle.drom.specs.Report.{refusedReport, walkedReport}
+use Rattle.drom.specs.HeaderValues.{valuesIn}
+use Rattle.drom.specs.Report.{refusedReport, reportWith, walkedReport}
 use Rattle.feed.specs.declared.feeding.Core.{Core}
 use Rattle.feed.specs.declared.feeding.State.{State}
 use Rattle.feed.specs.Feed.{inBounds, registerAfter, told, finishOf}
@@ -84,32 +85,22 @@ crc32-right-of drom register r = ap₂ eqb (ap final32 r ∙ register-whole drom
 
 -- ---- the report
 
--- a report, part by part
-abbrev made : ℕ → ℕ → ℕ → ℕ → ℕ → ℕ → Bool → ℕ → ℕ → Bool → ℕ → ℕ → Report
-made number offset version length start crc32 crc32good crc8 uuid crc8good records bytes =
-    record {
-      number = number;
-      offset = offset;
-      version = version;
-      length = length;
-      start = start;
-      crc32 = crc32;
-      crc32good = crc32good;
-      crc8 = crc8;
-      uuid = uuid;
-      crc8good = crc8good;
-      records = records;
-      bytes = bytes;
-    }
+-- the values of a header, part by part
+abbrev made : ℕ → ℕ → ℕ → ℕ → ℕ → ℕ → Bool → HeaderValues
+made version length start crc32 crc8 uuid crc8good =
+    record { version = version; length = length; start = start; crc32 = crc32; crc8 = crc8; uuid = uuid; crc8good = crc8good }
+
+values-of : (drom : List ℕ) → valuesIn (take 16 drom) ≡ valuesIn drom
+values-of drom =
+    let h : List ℕ = take 16 drom in
+    ap₂ (λ (x y : ℕ). made x y (bodyStart h) (crc32In h) (cond (isTbt3 h) (crc8In h) 0) (cond (isTbt3 h) (uuidIn h) 0) (crc8Right h)) (at drom 13 (omega arith)) (length-of drom)
+    ∙ ap₂ (λ (x y : ℕ). made (versionIn drom) (lengthIn drom) x y (cond (isTbt3 h) (crc8In h) 0) (cond (isTbt3 h) (uuidIn h) 0) (crc8Right h)) (start-of drom) (crc32-of drom)
+    ∙ ap₂ (λ (x y : ℕ). made (versionIn drom) (lengthIn drom) (bodyStart drom) (crc32In drom) (cond (isTbt3 h) x 0) (cond (isTbt3 h) y 0) (crc8Right h)) (at drom 0 (omega arith)) (uuid-of drom)
+    ∙ ap₂ (λ (t u : Bool). made (versionIn drom) (lengthIn drom) (bodyStart drom) (crc32In drom) (cond t (crc8In drom) 0) (cond t (uuidIn drom) 0) u) (tbt3-of drom) (crc8-right-of drom)
 
 pub told-walked : (c : Core) (drom : List ℕ) (w : Walked) → c .refusal ≡ w .number → c .offset ≡ w .offset → c .register ≡ registerAfter start32 0 drom
     → c .count ≡ length (w .records) → c .written ≡ length (flatten (w .records)) → told c (take 16 drom) ≡ walkedReport drom w
 told-walked c drom w n o r k b =
-    let h : List ℕ = take 16 drom in
-    ap₂ (λ (x y : ℕ). made x y (versionIn h) (lengthIn h) (bodyStart h) (crc32In h) (eqb (final32 (c .register)) (crc32In h)) (cond (isTbt3 h) (crc8In h) 0) (cond (isTbt3 h) (uuidIn h) 0) (crc8Right h) (c .count) (c .written)) n o
-    ∙ ap₂ (λ (x y : ℕ). made (w .number) (w .offset) x y (bodyStart h) (crc32In h) (eqb (final32 (c .register)) (crc32In h)) (cond (isTbt3 h) (crc8In h) 0) (cond (isTbt3 h) (uuidIn h) 0) (crc8Right h) (c .count) (c .written)) (at drom 13 (omega arith)) (length-of drom)
-    ∙ ap₂ (λ (x y : ℕ). made (w .number) (w .offset) (versionIn drom) (lengthIn drom) x y (eqb (final32 (c .register)) (crc32In h)) (cond (isTbt3 h) (crc8In h) 0) (cond (isTbt3 h) (uuidIn h) 0) (crc8Right h) (c .count) (c .written)) (start-of drom) (crc32-of drom)
-    ∙ ap₂ (λ (x y : Bool). made (w .number) (w .offset) (versionIn drom) (lengthIn drom) (bodyStart drom) (crc32In drom) x (cond (isTbt3 h) (crc8In h) 0) (cond (isTbt3 h) (uuidIn h) 0) y (c .count) (c .written)) (crc32-right-of drom (c .register) r) (crc8-right-of drom)
-    ∙ ap₂ (λ (x y : ℕ). made (w .number) (w .offset) (versionIn drom) (lengthIn drom) (bodyStart drom) (crc32In drom) (crc32Right drom) (cond (isTbt3 h) x 0) (cond (isTbt3 h) y 0) (crc8Right drom) (c .count) (c .written)) (at drom 0 (omega arith)) (uuid-of drom)
-    ∙ ap (λ (t : Bool). made (w .number) (w .offset) (versionIn drom) (lengthIn drom) (bodyStart drom) (crc32In drom) (crc32Right drom) (cond t (crc8In drom) 0) (cond t (uuidIn drom) 0) (crc8Right drom) (c .count) (c .written)) (tbt3-of drom)
-    ∙ ap₂ (λ (x y : ℕ). made (w .number) (w .offset) (versionIn drom) (lengthIn drom) (bodyStart drom) (crc32In drom) (crc32Right drom) (cond (isTbt3 drom) (crc8In drom) 0) (cond (isTbt3 drom) (uuidIn drom) 0) (crc8Right drom) x y) k b
+    ap₂ (λ (h : HeaderValues) (good : Bool). reportWith h good (c .refusal) (c .offset) (c .count) (c .written)) (values-of drom) (crc32-right-of drom (c .register) r)
+    ∙ ap₂ (λ (x y : ℕ). reportWith (valuesIn drom) (crc32Right drom) x y (c .count) (c .written)) n o
+    ∙ ap₂ (λ (x y : ℕ). reportWith (valuesIn drom) (crc32Right drom) (w .number) (w .offset) x y) k b

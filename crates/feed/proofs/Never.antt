@@ -9,19 +9,20 @@ use native.Mathlib.Omega.{arith}
 use borrow.Author.Tests.{eqb-true, eqb-false}
 use lib.Dec.{ltb, leb, eqb}
 use lib.ListN.{length, getD, set, replicate, length-replicate}
+use Rattle.bits.specs.Bits.{Bytes}
 use Rattle.entry.specs.Decode.{numberOf}
 use Rattle.entry.proofs.FitLaws.{refused-number}
 use Rattle.drom.specs.Numbers.{firstOf}
-use Rattle.drom.specs.Header.{lengthIn, isTbt3, openTests}
+use Rattle.drom.specs.Header.{lengthIn, isTbt3, openTests, headerNumber}
 use Rattle.drom.specs.Report.{refusedReport}
 use Rattle.feed.specs.declared.feeding.State.{State}
 use Rattle.feed.specs.Kinds.{tableOf}
 use Rattle.feed.specs.Run.{Run, withPending, counted, pendingEntry, kept, stepOf, steps}
 use Rattle.feed.specs.Bounds.{Good}
 use Rattle.feed.specs.Feed.{fresh, openedBy, openOf, inBounds, registerAfter, runIn, stateAfter, Answer, feedOf, told, finishOf}
-use Rattle.feed.specs.Pieces.{Bytes, Left}
+use Rattle.feed.specs.Pieces.{Left}
 use Rattle.feed.specs.Pieces.Left.{opened, fed}
-use Rattle.feed.proofs.StepLaws.{next, more, verdict, judged-is, ended-cases, kept-cases, step-cases, step-after, steps-nil, steps-cons}
+use Rattle.feed.proofs.StepLaws.{next, more, judged-is, ended-cases, kept-cases, step-cases, step-after, steps-nil, steps-cons}
 use Rattle.feed.proofs.FeedLaws.{in-of}
 use Rattle.feed.proofs.KindLaws.{table-long}
 use Rattle.feed.proofs.Cutting.{feed-number, Taken, taken-is, accepted, feed-refused}
@@ -116,8 +117,8 @@ never {s} h xs b x = go (ltb (length b) 16368) (ltb (s .core .announced - s .cor
 abbrev Small : Run → Type 0
 Small r = r .core .refusal ≤ 11
 
-verdict-small : (size : ℕ) (h : List ℕ) → verdict size h ≤ 11
-verdict-small size h = go (eqb (lengthIn h + 13) size) (isTbt3 h && ltb size 22)
+header-number-small : (size : ℕ) (h : List ℕ) → headerNumber size h ≤ 11
+header-number-small size h = go (eqb (lengthIn h + 13) size) (isTbt3 h && ltb size 22)
   where
     go : (p q : Bool) → firstOf ((not p, 2) ∷ (q, 3) ∷ []) ≤ 11
     go false q = omega arith
@@ -137,7 +138,7 @@ step-small r b h =
     step-cases Small r b
     (λ y. h)
     (λ y n. h)
-    (λ y n. rw (judged-is (counted (r .core)) x) (verdict-small (r .core .announced) x))
+    (λ y n. rw (judged-is (counted (r .core)) x) (header-number-small (r .core .announced) x))
     (λ y n w. h)
     (λ y n. omega arith)
     (λ y n. omega arith)

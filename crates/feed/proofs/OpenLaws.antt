@@ -1,19 +1,18 @@
--- Opening and finishing: the table of kinds, filled from the list's end, and the answers case by case.
+-- Opening: the table of kinds, filled from the list's end, and the states case by case.
 -- Assumes nothing.
 use Prim.Native.Nat.{ℕ, suc, _+_, _-_, _%_, _≤_, _<_}
 use mathlib.Core.Path.{_≡_, refl, sym, ap, _∙_}
 use mathlib.Core.List.{List, [], _∷_}
-use mathlib.Core.Bool.{true, false, cond}
+use mathlib.Core.Bool.{cond}
 use native.Mathlib.Omega.{arith}
 use lib.Dec.{ltb}
 use lib.ListN.{length, getD, set, drop, replicate, length-set}
 use lib.Seq.{drop-cons, drop-length}
-use borrow.Author.Tests.{lt-ltb, le-ltb, eq-eqb, ne-eqb, le-leb, lt-leb}
-use Rattle.drom.specs.Report.{refusedReport}
+use borrow.Author.Tests.{lt-ltb, le-ltb, eq-eqb, ne-eqb}
 use Rattle.feed.specs.declared.feeding.Core.{Core}
 use Rattle.feed.specs.declared.feeding.State.{State}
 use Rattle.feed.specs.Kinds.{tableOf}
-use Rattle.feed.specs.Feed.{fresh, openOf, inBounds, told, finishOf}
+use Rattle.feed.specs.Feed.{fresh, openOf}
 
 pair-drop : (l : List ℕ) (j : ℕ) → j + 1 < length l → drop j l ≡ getD l j 0 ∷ getD l (j + 1) 0 ∷ drop (j + 2) l
 pair-drop l j h =
@@ -85,27 +84,3 @@ module _ (list : List ℕ) (size room : ℕ) where
   pub open-fresh : (length list % 2 ≡ 1 → ⊥) → 16368 ≤ room → 16 ≤ size → openOf list size room ≡ fresh size 0 (tableOf list)
   unfolding openOf
   open-fresh h k l = rw (ne-eqb (length list % 2) 1 h, le-ltb room 16368 k, le-ltb size 16 l)
-
--- ---- the answers of a finish
-
-module _ (s : State) where
-  pub finish-out : inBounds (s .core) ≡ false → finishOf s ≡ refusedReport 18
-  unfolding finishOf
-  finish-out e = rw e
-
-  pub finish-missing : inBounds (s .core) ≡ true → s .core .taken < s .core .announced → finishOf s ≡ refusedReport 13
-  unfolding finishOf
-  finish-missing e h = rw (e, lt-ltb _ _ h)
-
-  module _ (e : inBounds (s .core) ≡ true) (h : s .core .announced ≤ s .core .taken) where
-    pub finish-well : s .core .refusal ≡ 0 → finishOf s ≡ told (s .core) (s .header)
-    unfolding finishOf
-    finish-well z = rw (e, le-ltb _ _ h, lt-leb 1 (s .core .refusal) (omega arith))
-
-    pub finish-refused : (s .core .refusal ≡ 0 → ⊥) → s .core .refusal ≤ 5 → finishOf s ≡ refusedReport (s .core .refusal)
-    unfolding finishOf
-    finish-refused z k = rw (e, le-ltb _ _ h, le-leb 1 (s .core .refusal) (omega arith), le-leb (s .core .refusal) 5 k)
-
-    pub finish-stopped : 5 < s .core .refusal → finishOf s ≡ told (s .core) (s .header)
-    unfolding finishOf
-    finish-stopped k = rw (e, le-ltb _ _ h, le-leb 1 (s .core .refusal) (omega arith), lt-leb (s .core .refusal) 5 k)

@@ -13,6 +13,7 @@ use lib.ListN.{length, replicate, length-append}
 use lib.Seq.{sets, sets-eq, drop-nil, getD-append-add}
 use lib.Dec.{ltb, eqb}
 use borrow.Author.Tests.{ltb-false, eqb-true, eqb-false, eq-eqb, ne-eqb}
+use Rattle.bits.specs.Bits.{Bytes}
 use Rattle.bits.specs.Front.{onto}
 use Rattle.entry.specs.Adapters.{kindIn}
 use Rattle.drom.specs.Numbers.{firstOf}
@@ -24,7 +25,7 @@ use Rattle.feed.specs.Run.{Run, steps}
 use Rattle.feed.specs.Bounds.{Good}
 use Rattle.feed.specs.Feed.{fresh, openedBy, openOf, registerAfter, runIn, stateAfter, Answer, answer, feedOf}
 use Rattle.feed.specs.Prefix.{prefixOf}
-use Rattle.feed.specs.Pieces.{Bytes, feedMany, Left, Told}
+use Rattle.feed.specs.Pieces.{feedMany, Left, Told}
 use Rattle.feed.specs.Pieces.Left.{fed}
 use Rattle.feed.proofs.StepLaws.{steps-nil}
 use Rattle.feed.proofs.FeedLaws.{in-of}

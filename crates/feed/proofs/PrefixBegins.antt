@@ -18,11 +18,11 @@ use Rattle.entry.specs.declared.parse.Decoded.{Decoded}
 use Rattle.entry.specs.declared.parse.Decoded.the-variants.{Is, Refused}
 use Rattle.record.specs.Record.{recordOf}
 use Rattle.drom.specs.Numbers.{firstOf}
-use Rattle.drom.specs.Header.{isTbt3, bodyStart}
-use Rattle.drom.specs.Walk.{Walked, entryOf, frontOf, end, andThen, walkOf}
+use Rattle.drom.specs.Header.{isTbt3, bodyStart, headerNumber}
+use Rattle.drom.specs.Walk.{Walked, entryOf, frontOf, end, andThen, walkOf, stop}
 use Rattle.drom.specs.Report.{walkIn}
 use Rattle.drom.proofs.WalkLaws.{front-inside, walk-end, walk-on, front-zero, front-past, front-whole}
-use Rattle.feed.specs.Prefix.{stop, soFarBy, headerNumber, prefixOf}
+use Rattle.feed.specs.Prefix.{soFarBy, prefixOf}
 use Rattle.feed.proofs.PrefixEntries.{so-six, so-seven, so-part, so-entry}
 use Rattle.feed.proofs.PrefixHeader.{so-nil}
 use Rattle.feed.proofs.PrefixLaws.{prefix-walked}

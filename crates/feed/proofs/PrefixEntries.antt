@@ -10,6 +10,7 @@ use lib.ListN.{length, getD, take, drop, length-append, take-append-drop, length
 use lib.Seq.{sets, length-sets, take-length, length-take-le, getD-drop}
 use lib.Dec.{ltb, eqb}
 use borrow.Author.Tests.{lt-ltb, le-ltb, eq-eqb, ne-eqb, ltb-true, ltb-false, eqb-true, eqb-false}
+use Rattle.bits.specs.Bits.{Bytes}
 use Rattle.entry.specs.declared.parse.DromEntry.{DromEntry}
 use Rattle.entry.specs.declared.parse.Decoded.{Decoded}
 use Rattle.entry.specs.declared.parse.Decoded.the-variants.{Is, Refused}
@@ -17,11 +18,10 @@ use Rattle.entry.specs.Decode.{numberOf, decodeOf}
 use Rattle.entry.proofs.FitLaws.{refused-number}
 use Rattle.record.specs.Record.{recordOf}
 use Rattle.drom.specs.Header.{bodyStart}
-use Rattle.drom.specs.Walk.{Walked, entryOf, end, andThen}
+use Rattle.drom.specs.Walk.{Walked, entryOf, end, andThen, stop}
 use Rattle.feed.specs.declared.feeding.Core.{Core}
 use Rattle.feed.specs.Run.{Run, run, withCore, counted, refused, recorded, pendingAt, ended, stepOf, steps}
-use Rattle.feed.specs.Pieces.{Bytes}
-use Rattle.feed.specs.Prefix.{stop, soFarBy}
+use Rattle.feed.specs.Prefix.{soFarBy}
 use Rattle.feed.proofs.EntryBytes.{sets-append, Between, placed, entering, wholly, whole-entry}
 use Rattle.feed.proofs.EntryBytes.{whole as whole-run}
 use Rattle.feed.proofs.StepLaws.{next, ended-record, ended-refused, step-refused, step-zero, step-past, steps-nil, steps-cons, steps-append}

@@ -11,14 +11,13 @@ use lib.ListN.{length, getD, set, take, drop, take-append-drop, length-drop, dro
 use lib.Seq.{sets, take-suc, take-all, length-take-le, length-sets, getD-take, getD-drop, drop-drop}
 use lib.Dec.{ltb, eqb}
 use borrow.Author.Tests.{ltb-true, ltb-false, eqb-true, eqb-false}
-use Rattle.bits.specs.Bits.{le2}
+use Rattle.bits.specs.Bits.{le2, Bytes}
 use Rattle.drom.specs.Numbers.{firstOf}
-use Rattle.drom.specs.Header.{lengthIn, isTbt3, bodyStart}
-use Rattle.drom.specs.Walk.{Walked, end}
+use Rattle.drom.specs.Header.{lengthIn, isTbt3, bodyStart, headerNumber}
+use Rattle.drom.specs.Walk.{Walked, end, stop}
 use Rattle.feed.specs.declared.feeding.Core.{Core}
 use Rattle.feed.specs.Run.{Run, run, withPending, counted, refused, judged, ended, kept, stepOf, steps}
-use Rattle.feed.specs.Pieces.{Bytes}
-use Rattle.feed.specs.Prefix.{stop, soFarBy, headerNumber, prefixOf}
+use Rattle.feed.specs.Prefix.{soFarBy, prefixOf}
 use Rattle.feed.proofs.StepLaws.{next, ended-cases, kept-cases, step-cases, step-header, step-judge, step-skip, judged-is, steps-nil, steps-cons, steps-append}
 use Rattle.feed.proofs.MoveLaws.{step-moves}
 use Rattle.feed.proofs.EntryBytes.{sets-append, take-sets}

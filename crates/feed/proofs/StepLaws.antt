@@ -17,7 +17,7 @@ use Rattle.entry.proofs.FitLaws.{refused-number}
 use Rattle.record.specs.Record.{recordOf}
 use Rattle.record.proofs.WriteLaws.{written-room}
 use Rattle.drom.specs.Numbers.{wrongLength, shortTbt3, zeroLength, pastEnd, firstOf}
-use Rattle.drom.specs.Header.{lengthIn, isTbt3, bodyStart}
+use Rattle.drom.specs.Header.{lengthIn, isTbt3, bodyStart, headerNumber}
 use Rattle.feed.specs.declared.feeding.Core.{Core}
 use Rattle.feed.specs.Run.{Run, run, withCore, withPending, counted, refused, filled, recorded, judged, pendingEntry, pendingAt, endedBy, ended, kept, begun, headed, stepOf, steps}
 use Rattle.feed.specs.Bounds.{Live, Good}
@@ -100,16 +100,12 @@ module _ (r : Run) (at b : ℕ) where
 
 -- ---- the header
 
--- the number of a header: 2, 3, or 0
-abbrev pub verdict : ℕ → List ℕ → ℕ
-verdict size h = firstOf ((not (eqb (lengthIn h + 13) size), wrongLength) ∷ (isTbt3 h && ltb size 22, shortTbt3) ∷ [])
-
-pub judged-is : (c : Core) (h : List ℕ) → judged c h ≡ refused c (verdict (c .announced) h) 0
+pub judged-is : (c : Core) (h : List ℕ) → judged c h ≡ refused c (headerNumber (c .announced) h) 0
 unfolding judged
 judged-is c h = refl
 
-pub verdict-length : (size : ℕ) (h : List ℕ) → verdict size h ≡ 0 → lengthIn h + 13 ≡ size
-verdict-length size h v = go (eqb (lengthIn h + 13) size) refl v
+pub header-number-length : (size : ℕ) (h : List ℕ) → headerNumber size h ≡ 0 → lengthIn h + 13 ≡ size
+header-number-length size h v = go (eqb (lengthIn h + 13) size) refl v
   where
     go : (t : Bool) → eqb (lengthIn h + 13) size ≡ t → firstOf ((not t, wrongLength) ∷ (isTbt3 h && ltb size 22, shortTbt3) ∷ []) ≡ 0 → lengthIn h + 13 ≡ size
     go true e q = eqb-true _ _ e
@@ -266,8 +262,8 @@ module _ (r : Run) (b : ℕ) (g : Good r) (h : r .core .taken < r .core .announc
       after-live (counted (r .core)) x refl refl e (λ z. record { small = λ n′. omega arith; filling = omega arith; fewer = omega arith; kept = omega arith; room = omega arith }))
       (λ y n. let v = g .live y in
       rw (judged-is (counted (r .core)) x)
-      (after-live (refused (counted (r .core)) (verdict (r .core .announced) x) 0) x refl refl e
-      (λ z. let s = verdict-length (r .core .announced) x z in
+      (after-live (refused (counted (r .core)) (headerNumber (r .core .announced) x) 0) x refl refl e
+      (λ z. let s = header-number-length (r .core .announced) x z in
       record { small = λ n′. omega arith; filling = omega arith; fewer = omega arith; kept = omega arith; room = omega arith })))
       (λ y n w. let v = g .live y in let m = v .small n in
       after-live (counted (r .core)) (r .header) refl refl (g .head) (λ z. record { small = λ n′. m; filling = omega arith; fewer = omega arith; kept = omega arith; room = omega arith }))

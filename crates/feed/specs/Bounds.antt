@@ -1,4 +1,5 @@
--- The bounds of a run as facts: those that `inBounds` tests, and those that the types and the buffer lent give.
+-- The bounds of a run as facts, those that `inBounds` tests and those that the types and the buffer lent give; and what the steps over
+-- a piece tell of a run. Only private functions' contracts cite it; no public promise rests on it.
 -- Assumes nothing.
 use mathlib.Core.Path.{_≡_}
 use Prim.Native.Nat.{ℕ, _+_, _-_, _*_, _^_, _≤_, _<_}
@@ -34,3 +35,17 @@ pub record Through (r : Run) (piece : List ℕ) (r′ : Run) : Type 0 where
   pub same : r′ ≡ steps r (take (r′ .core .taken - r .core .taken) piece)
   pub up : r .core .taken ≤ r′ .core .taken
   pub within : r′ .core .taken ≤ r .core .taken + length piece
+
+-- whole entries were taken at once: i bytes, and so many records and record bytes in all
+abbrev pub passed : Core → ℕ → ℕ → ℕ → Core
+passed c i count written =
+    record {
+      announced = c .announced;
+      taken = c .taken + i;
+      refusal = c .refusal;
+      offset = c .offset;
+      register = c .register;
+      fill = c .fill;
+      count = count;
+      written = written;
+    }

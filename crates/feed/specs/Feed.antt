@@ -7,22 +7,26 @@ use lib.Dec.{ltb, leb, eqb}
 use lib.ListN.{length, replicate, drop}
 use Rattle.util.specs.Crc.{over, byteOf32, start32, final32}
 use Rattle.drom.specs.declared.reader.Report.{Report}
-use Rattle.drom.specs.Numbers.{firstOf}
-use Rattle.drom.specs.Header.{crc8In, uuidIn, crc32In, versionIn, lengthIn, isTbt3, bodyStart, crc8Right, roomFor, openTests}
-use Rattle.drom.specs.Report.{refusedReport}
+use Rattle.drom.specs.Numbers.{smallBuffer, firstOf}
+use Rattle.drom.specs.Header.{crc32In, roomFor, openTests}
+use Rattle.drom.specs.HeaderValues.{valuesIn}
+use Rattle.drom.specs.Report.{refusedReport, reportWith}
 use Rattle.feed.specs.declared.feeding.Core.{Core}
 use Rattle.feed.specs.declared.feeding.State.{State}
 use Rattle.feed.specs.declared.feeding.Fed.{Fed}
 use Rattle.feed.specs.Kinds.{tableOf}
 use Rattle.feed.specs.Run.{Run, run, steps}
 
--- feed's own numbers
+-- "Numbers given back", those of feeding
+-- feed beyond the announced size
 abbrev pub beyond : ℕ
 beyond = 12
 
+-- finish before all has arrived
 abbrev pub missing : ℕ
 missing = 13
 
+-- feed or finish on a state outside the reader's own bounds
 abbrev pub outside : ℕ
 outside = 18
 
@@ -97,7 +101,7 @@ both f buffer = record { fed = f; buffer = buffer }
 -- "A feed answers 0, 18, 4 or 12, tested as 18, 4, 12; each refusal leaves everything as it was."
 abbrev pub feedTests : State → List ℕ → ℕ → List (Bool × ℕ)
 feedTests s piece room =
-    (not (inBounds (s .core)), outside) ∷ (ltb room (roomFor (s .core .announced)), 4) ∷ (ltb (s .core .announced - s .core .taken) (length piece), beyond) ∷ []
+    (not (inBounds (s .core)), outside) ∷ (ltb room (roomFor (s .core .announced)), smallBuffer) ∷ (ltb (s .core .announced - s .core .taken) (length piece), beyond) ∷ []
 
 abbrev pub feedBy : ℕ → State → List ℕ → List ℕ → Answer
 feedBy refusal s piece buffer =
@@ -108,23 +112,9 @@ feedBy refusal s piece buffer =
 unfoldable pub feedOf : State → List ℕ → List ℕ → Answer
 feedOf s piece buffer = feedBy (firstOf (feedTests s piece (length buffer))) s piece buffer
 
--- what a finished state tells: zeros for 1 to 5; else the header's values and verdicts, and what was recorded
+-- what a state tells whose 16 header bytes were accepted: the header's values and verdicts, and what was recorded
 abbrev pub told : Core → List ℕ → Report
-told c h =
-    record {
-      number = c .refusal;
-      offset = c .offset;
-      version = versionIn h;
-      length = lengthIn h;
-      start = bodyStart h;
-      crc32 = crc32In h;
-      crc32good = eqb (final32 (c .register)) (crc32In h);
-      crc8 = cond (isTbt3 h) (crc8In h) 0;
-      uuid = cond (isTbt3 h) (uuidIn h) 0;
-      crc8good = crc8Right h;
-      records = c .count;
-      bytes = c .written;
-    }
+told c h = reportWith (valuesIn h) (eqb (final32 (c .register)) (crc32In h)) (c .refusal) (c .offset) (c .count) (c .written)
 
 -- "Finish gives 18 first, then 13 if bytes are missing, else the report"
 unfoldable pub finishOf : State → Report

@@ -1,3 +1,4 @@
+-- Document 01, "Feeding": a byte's step (Run), the calls (Feed), and what demand 3 says of them (Prefix, Pieces). Bounds serves private contracts.
 pub mod Kinds
 pub mod Run
 pub mod Bounds

@@ -3,17 +3,14 @@
 use mathlib.Core.Path.{_≡_}
 use mathlib.Core.List.{List, [], _∷_, flatten}
 use Prim.Native.Nat.{ℕ, _^_, _≤_, _<_}
-use lib.ListN.{length, getD, take}
+use lib.ListN.{length, take}
+use Rattle.bits.specs.Bits.{Bytes}
 use Rattle.bits.specs.Front.{onto}
 use Rattle.util.specs.Crc.{start32}
 use Rattle.entry.specs.Adapters.{kindIn}
 use Rattle.feed.specs.declared.feeding.State.{State}
 use Rattle.feed.specs.Feed.{Answer, registerAfter, feedOf, openOf}
 use Rattle.feed.specs.Prefix.{prefixOf}
-
--- each is a byte
-abbrev pub Bytes : List ℕ → Type 0
-Bytes xs = (i : ℕ) → getD xs i 0 < 256
 
 -- piece after piece, each fed to the state that the one before left, with the buffer that it left
 unfoldable pub feedMany : Answer → List (List ℕ) → Answer

@@ -1,18 +1,14 @@
 -- Demand 3: "After each piece, the records are those of the entries complete so far, up to the first refused, none under a refused ..
 -- header". What the first bytes of a DROM say of it, where its size is announced.
 -- Assumes nothing.
-use mathlib.Core.Bool.{cond, not, _&&_}
+use mathlib.Core.Bool.{cond}
 use mathlib.Core.List.{List, [], _∷_}
 use Prim.Native.Nat.{ℕ, zero, suc, _+_, _-_}
 use lib.Dec.{ltb, eqb}
 use lib.ListN.{length, take, drop}
-use Rattle.drom.specs.Numbers.{wrongLength, shortTbt3, zeroLength, pastEnd, firstOf}
-use Rattle.drom.specs.Header.{lengthIn, isTbt3, bodyStart}
-use Rattle.drom.specs.Walk.{Walked, entryOf, end, andThen}
-
--- nothing more than a refusal at an offset
-abbrev pub stop : ℕ → ℕ → Walked
-stop n at = record { entries = []; records = []; number = n; offset = at }
+use Rattle.drom.specs.Numbers.{zeroLength, pastEnd}
+use Rattle.drom.specs.Header.{bodyStart, headerNumber}
+use Rattle.drom.specs.Walk.{Walked, entryOf, end, stop, andThen}
 
 -- The walk from an offset on over the bytes that are there, of `left` that are announced from there: 6, then 7 by the announced bytes,
 -- and an entry that is not whole yet ends it.
@@ -24,10 +20,6 @@ soFarBy (suc turns) kinds at left (L ∷ bs) =
     (cond (ltb left L) (stop pastEnd at)
     (cond (ltb (length (L ∷ bs)) L) end
     (andThen at (take L (L ∷ bs)) (entryOf kinds (take L (L ∷ bs))) (soFarBy turns kinds (at + L) (left - L) (drop L (L ∷ bs))))))
-
--- the number of a header of a DROM of the announced size: 2, 3, or 0
-abbrev pub headerNumber : ℕ → List ℕ → ℕ
-headerNumber size bs = firstOf ((not (eqb (lengthIn bs + 13) size), wrongLength) ∷ (isTbt3 bs && ltb size 22, shortTbt3) ∷ [])
 
 -- what the first bytes of a DROM of the announced size come to: nothing before 16 are in, nothing but its number under a refused header
 unfoldable pub prefixOf : (ℕ → ℕ) → ℕ → List ℕ → Walked

@@ -1,6 +1,6 @@
--- What a reader that is fed has in hand, and what one byte does to it.
+-- Document 01, "Feeding": what a reader that is fed has in hand, and what one byte does to it.
 -- Assumes nothing.
-use mathlib.Core.Bool.{cond, not, _&&_}
+use mathlib.Core.Bool.{cond}
 use mathlib.Core.List.{List, [], _∷_}
 use Prim.Native.Nat.{ℕ, _+_, _-_}
 use lib.Dec.{ltb, eqb}
@@ -10,8 +10,8 @@ use Rattle.entry.specs.declared.parse.Decoded.{Decoded}
 use Rattle.entry.specs.declared.parse.Decoded.the-variants.{Is, Refused}
 use Rattle.entry.specs.Decode.{numberOf, decodeOf}
 use Rattle.record.specs.Record.{recordOf}
-use Rattle.drom.specs.Numbers.{wrongLength, shortTbt3, zeroLength, pastEnd, firstOf}
-use Rattle.drom.specs.Header.{lengthIn, isTbt3, bodyStart}
+use Rattle.drom.specs.Numbers.{zeroLength, pastEnd}
+use Rattle.drom.specs.Header.{bodyStart, headerNumber}
 use Rattle.feed.specs.declared.feeding.Core.{Core}
 
 -- the numbers of a state, its three tables, and the record buffer that is lent
@@ -85,25 +85,9 @@ recorded c n =
       written = c .written + n;
     }
 
--- whole entries were taken at once: i bytes, and so many records and record bytes in all
-abbrev pub passed : Core → ℕ → ℕ → ℕ → Core
-passed c i count written =
-    record {
-      announced = c .announced;
-      taken = c .taken + i;
-      refusal = c .refusal;
-      offset = c .offset;
-      register = c .register;
-      fill = c .fill;
-      count = count;
-      written = written;
-    }
-
 -- The 16 bytes of a header are in, of a DROM of the announced size: 2, then 3, or nothing is refused. Their offset is 0.
 unfoldable pub judged : Core → List ℕ → Core
-judged c h =
-    refused c
-    (firstOf ((not (eqb (lengthIn h + 13) (c .announced)), wrongLength) ∷ (isTbt3 h && ltb (c .announced) 22, shortTbt3) ∷ [])) 0
+judged c h = refused c (headerNumber (c .announced) h) 0
 
 -- the entry that is pending, whose last byte is at fill, and where it stands, after that byte was counted
 abbrev pub pendingEntry : Run → List ℕ

@@ -4,15 +4,13 @@ ghost use mathlib.Core.Bool.{true};
 ghost use Prim.Native.Nat.{_+_, _-_, _*_, _%_, _≤_, _<_};
 ghost use lib.ListN.{length, getD, replicate};
 ghost use Rattle.entry.specs.Decode.{numberOf};
-ghost use Rattle.drom.specs.Report.{refusedReport};
 ghost use Rattle.feed.specs.Kinds.{tableOf};
-ghost use Rattle.feed.specs.Run.{run, passed, judged, ended, kept, stepOf, steps};
-ghost use Rattle.feed.specs.Bounds.{Good, AnyHeader, Through};
+ghost use Rattle.feed.specs.Run.{run, judged, ended, kept, stepOf, steps};
+ghost use Rattle.feed.specs.Bounds.{Good, AnyHeader, Through, passed};
 ghost use Rattle.feed.specs.Feed.{fresh, openOf, inBounds, registerAfter, runIn, stateAfter, both, feedOf, told, finishOf};
 use drom::Report;
 use drom::header::body_start;
-use drom::header::is_tbt3;
-use drom::header::stated_length;
+use drom::header::header_number;
 use record::Written;
 
 // The numbers of a state. `fill` bytes of an entry are pending; `register` is CRC32's. The small ones stand last, so that a copy has
@@ -107,23 +105,11 @@ fn keep(core: Core, b: u8, pending: &mut [u8; 255], kinds: &[u8; 64], records: &
 
 // Judges a header whose 16 bytes are in.
 fn judge(core: Core, header: &[u8]) -> Core
-    requires { ⌜ 16 ≤ length (now header) ⌝ }
     ensures { λ r. ⌜ r ≡ judged core (now (header .entry)) ⌝ }
 {
     let mut c = core;
-    c.refusal = 0;
+    c.refusal = header_number(header, core.announced);
     c.offset = 0;
-    if stated_length(header) + 13 != core.announced {
-        c.refusal = 2;
-        return c;
-    }
-    if is_tbt3(header) {
-        if core.announced < 22 {
-            c.refusal = 3;
-            return c;
-        }
-        return c;
-    }
     c
 }
 
@@ -469,25 +455,6 @@ pub fn open(list: &[u8], announced: usize, records: &[u8]) -> State
 
 // ---- finishing
 
-fn refused_report(number: u8) -> Report
-    ensures { λ r. ⌜ r ≡ refusedReport number ⌝ }
-{
-    Report {
-        number,
-        offset: 0,
-        version: 0,
-        length: 0,
-        start: 0,
-        crc32: 0,
-        crc32good: false,
-        crc8: 0,
-        uuid: 0,
-        crc8good: false,
-        records: 0,
-        bytes: 0,
-    }
-}
-
 fn report(core: Core, header: &[u8]) -> Report
     requires { ⌜ 16 ≤ length (now header) ⌝ }
     ensures { λ r. ⌜ r ≡ told core (now (header .entry)) ⌝ }
@@ -515,17 +482,17 @@ pub fn finish(state: State) -> Report
 {
     let core = state.core;
     if !in_bounds(core) {
-        return refused_report(18);
+        return drom::refused_report(18);
     }
     if core.taken < core.announced {
-        return refused_report(13);
+        return drom::refused_report(13);
     }
     let header = state.header;
     if core.refusal == 0 {
         return report(core, &header);
     }
     if core.refusal <= 5 {
-        return refused_report(core.refusal);
+        return drom::refused_report(core.refusal);
     }
     report(core, &header)
 }

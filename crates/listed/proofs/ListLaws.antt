@@ -60,7 +60,7 @@ module _ (list others drom : List ℕ) (even : length list % 2 ≡ 0) (even′ :
   refusal-same : (room : ℕ) → refusalOf list drom room ≡ refusalOf others drom room
   refusal-same room =
       ap
-      (λ (odd : ℕ). firstOf ((eqb odd 1, oddList) ∷ (ltb room (roomFor (length drom)), smallBuffer) ∷ (ltb (length drom) 16, tooFew) ∷ headerTests drom))
+      (λ (odd : ℕ). firstOf ((eqb odd 1, oddList) ∷ (ltb room (roomFor (length drom)), smallBuffer) ∷ (ltb (length drom) 16, tooFew) ∷ headerTests (length drom) drom))
       (even ∙ sym even′)
 
   walk-in-same : walkIn (kindIn list) drom ≡ walkIn (kindIn others) drom

@@ -14,7 +14,7 @@ use Rattle.entry.proofs.DecodeLaws.{decoded-values, row-plain, row-unknown}
 use Rattle.entry.proofs.DecodeLaws as decode-laws
 use Rattle.bits.specs.Fields.{pack}
 use Rattle.record.specs.Record.{rowIs, headOf, payloadOf, recordOf}
-use Rattle.record.specs.Lengths.{payloadLength}
+use Rattle.record.proofs.PayloadLength.{payloadLength}
 use Rattle.record.proofs.TextLaws.{text-even}
 
 -- ---- the row

@@ -14,7 +14,7 @@ use Rattle.entry.specs.declared.parse.Decoded.the-variants.{Is}
 use Rattle.entry.specs.Rows.{Row, unknown, adapter, unused, displayPort, lane, pcieUp, pcieDown, generic, asciiVendor, asciiModel, tmu, product, serial, usb3Map, utf16Vendor, utf16Model, dataPath, dptx, embeddedLink, least}
 use Rattle.entry.specs.Decode.{nameOf, valuesOf, rowEntry}
 use Rattle.record.specs.Record.{rowIs, tagOf, headOf, mapFields, rankFields, payloadOf, recordOf}
-use Rattle.record.specs.Lengths.{payloadLength}
+use Rattle.record.proofs.PayloadLength.{payloadLength}
 use Rattle.record.proofs.RecordLaws.{head-append, head-length}
 use Rattle.record.proofs.TextLaws.{name-length, text-length}
 use Rattle.record.proofs.Known.{fits, counted}

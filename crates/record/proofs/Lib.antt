@@ -1,3 +1,4 @@
+pub mod PayloadLength
 pub mod RecordLaws
 pub mod Turns
 pub mod TextLaws

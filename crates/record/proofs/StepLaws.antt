@@ -20,7 +20,7 @@ use Rattle.entry.specs.declared.parse.Decoded.the-variants.{Is}
 use Rattle.entry.specs.Rows.{Row, unknown, adapter, unused, displayPort, lane, pcieUp, pcieDown, generic, asciiVendor, asciiModel, tmu, product, serial, usb3Map, utf16Vendor, utf16Model, dataPath, dptx, embeddedLink, tag}
 use Rattle.entry.specs.Decode.{nameOf, rowEntry}
 use Rattle.record.specs.Record.{rowIs, tagOf, mapFields, payloadOf, recordOf}
-use Rattle.record.specs.Lengths.{payloadLength}
+use Rattle.record.proofs.PayloadLength.{payloadLength}
 use Rattle.record.specs.Step.{headTag, headIn, payloadSizes, taggedSize, recordSize}
 use Rattle.record.proofs.RecordLaws.{head-bytes}
 use Rattle.record.proofs.TextLaws.{name-length, text-length}

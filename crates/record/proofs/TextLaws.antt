@@ -10,7 +10,7 @@ use borrow.Author.Tests.{leb-true, le-leb, le-ltb, ne-eqb, eqb-false}
 use lib.Dec.{eqb}
 use lib.ListN.{length, drop, length-append, length-drop}
 use Rattle.bits.specs.Front.{Wrote}
-use Rattle.bits.proofs.LawsFields.{Bytes}
+use Rattle.bits.specs.Bits.{Bytes}
 use Rattle.util.specs.Range.{range}
 use Rattle.util.specs.Utf16.{units, Char, scalar, unpaired, isPair, alone, decode, kept, keptOf, textOf, utf16Text, utf16Answer, utf16Leaves}
 use Rattle.util.specs.declared.utf16.Utf16Ascii.the-variants.{Written, OddLength, NoRoom}

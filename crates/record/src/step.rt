@@ -11,15 +11,11 @@ pub struct Head {
     pub length: usize,
 }
 
-// The byte at a place, and 0 past the end.
+// `bits::byte_at`, to reckon with.
 fn at(bytes: &[u8], i: usize) -> usize
     ensures { λ r. ⌜ (r ≡ byte i (now (bytes .entry))) × (r < 256) ⌝ }
 {
-    if i < bytes.len() {
-        bytes[i] as usize
-    } else {
-        0
-    }
+    bits::byte_at(bytes, i) as usize
 }
 
 fn entry_length(bytes: &[u8]) -> usize

@@ -8,7 +8,7 @@ use native.Mathlib.Omega.{arith}
 use borrow.Author.Tests.{leb-true, ltb-true, ltb-false, le-leb, lt-leb}
 use lib.Dec.{leb, ltb}
 use Rattle.util.specs.Range.{range}
-use Rattle.util.specs.Utf8.{tail, isScalar, utf8-2, utf8-3, utf8-4}
+use Rattle.util.specs.Utf8.{utf8-tail, isScalar, utf8-2, utf8-3, utf8-4}
 
 pub clash : false ≡ true → ⊥
 clash e = let z : _≡_ {A = ℕ} 0 1 = cc in omega arith
@@ -75,10 +75,10 @@ module _ (first last low high a b : ℕ) where
   row2-means : (range first last a && range low high b) ≡ true ↔ Row2 first last low high a b
   row2-means = and-means (range-means first last a) (range-means low high b)
 
-  row3-means : (c : ℕ) → (range first last a && range low high b && tail c) ≡ true ↔ Row3 first last low high a b c
+  row3-means : (c : ℕ) → (range first last a && range low high b && utf8-tail c) ≡ true ↔ Row3 first last low high a b c
   row3-means c = and-means row2-means (range-means 0x80 0xBF c)
 
-  row4-means : (c d : ℕ) → (range first last a && range low high b && tail c && tail d) ≡ true ↔ Row4 first last low high a b c d
+  row4-means : (c d : ℕ) → (range first last a && range low high b && utf8-tail c && utf8-tail d) ≡ true ↔ Row4 first last low high a b c d
   row4-means c d = and-means (row3-means c) (range-means 0x80 0xBF d)
 
 module _ (a b : ℕ) where

@@ -40,27 +40,27 @@ unfoldable pub utf8-1 : ℕ → Bool
 utf8-1 a = range 0x00 0x7F a
 
 -- UTF8-tail = %x80-BF
-abbrev pub tail : ℕ → Bool
-tail n = range 0x80 0xBF n
+abbrev pub utf8-tail : ℕ → Bool
+utf8-tail n = range 0x80 0xBF n
 
 -- UTF8-2 = %xC2-DF UTF8-tail
 unfoldable pub utf8-2 : ℕ → ℕ → Bool
-utf8-2 a b = range 0xC2 0xDF a && tail b
+utf8-2 a b = range 0xC2 0xDF a && utf8-tail b
 
 -- UTF8-3 = %xE0 %xA0-BF UTF8-tail / %xE1-EC 2( UTF8-tail ) / %xED %x80-9F UTF8-tail / %xEE-EF 2( UTF8-tail )
 unfoldable pub utf8-3 : ℕ → ℕ → ℕ → Bool
 utf8-3 a b c =
-    (range 0xE0 0xE0 a && range 0xA0 0xBF b && tail c)
-    || (range 0xE1 0xEC a && tail b && tail c)
-    || (range 0xED 0xED a && range 0x80 0x9F b && tail c)
-    || (range 0xEE 0xEF a && tail b && tail c)
+    (range 0xE0 0xE0 a && range 0xA0 0xBF b && utf8-tail c)
+    || (range 0xE1 0xEC a && utf8-tail b && utf8-tail c)
+    || (range 0xED 0xED a && range 0x80 0x9F b && utf8-tail c)
+    || (range 0xEE 0xEF a && utf8-tail b && utf8-tail c)
 
 -- UTF8-4 = %xF0 %x90-BF 2( UTF8-tail ) / %xF1-F3 3( UTF8-tail ) / %xF4 %x80-8F 2( UTF8-tail )
 unfoldable pub utf8-4 : ℕ → ℕ → ℕ → ℕ → Bool
 utf8-4 a b c d =
-    (range 0xF0 0xF0 a && range 0x90 0xBF b && tail c && tail d)
-    || (range 0xF1 0xF3 a && tail b && tail c && tail d)
-    || (range 0xF4 0xF4 a && range 0x80 0x8F b && tail c && tail d)
+    (range 0xF0 0xF0 a && range 0x90 0xBF b && utf8-tail c && utf8-tail d)
+    || (range 0xF1 0xF3 a && utf8-tail b && utf8-tail c && utf8-tail d)
+    || (range 0xF4 0xF4 a && range 0x80 0x8F b && utf8-tail c && utf8-tail d)
 
 -- UTF8-octets = *( UTF8-char ), UTF8-char = UTF8-1 / UTF8-2 / UTF8-3 / UTF8-4
 unfoldable pub isUtf8 : List ℕ → Bool

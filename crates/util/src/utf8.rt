@@ -5,7 +5,7 @@ ghost use mathlib.Core.Bool.{_&&_};
 ghost use Prim.Native.Nat.{_<_};
 ghost use lib.ListN.{length};
 ghost use Rattle.util.specs.Range.{range};
-ghost use Rattle.util.specs.Utf8.{tail, utf8-2, utf8-3, utf8-4, isUtf8};
+ghost use Rattle.util.specs.Utf8.{utf8-tail, utf8-2, utf8-3, utf8-4, isUtf8};
 ghost use Rattle.util.specs.Chars.{CharAt};
 
 // first <= n <= last
@@ -28,7 +28,7 @@ fn pair(first: u8, last: u8, low: u8, high: u8, a: u8, b: u8) -> bool
 }
 
 fn row_of_three(first: u8, last: u8, low: u8, high: u8, a: u8, b: u8, c: u8) -> bool
-    ensures { λ r. ⌜ r ≡ (range first last a && range low high b && tail c) ⌝ }
+    ensures { λ r. ⌜ r ≡ (range first last a && range low high b && utf8-tail c) ⌝ }
 {
     if pair(first, last, low, high, a, b) {
         return in_range(0x80, 0xbf, c);
@@ -37,7 +37,7 @@ fn row_of_three(first: u8, last: u8, low: u8, high: u8, a: u8, b: u8, c: u8) -> 
 }
 
 fn row_of_four(first: u8, last: u8, low: u8, high: u8, a: u8, b: u8, c: u8, d: u8) -> bool
-    ensures { λ r. ⌜ r ≡ (range first last a && range low high b && tail c && tail d) ⌝ }
+    ensures { λ r. ⌜ r ≡ (range first last a && range low high b && utf8-tail c && utf8-tail d) ⌝ }
 {
     if row_of_three(first, last, low, high, a, b, c) {
         return in_range(0x80, 0xbf, d);

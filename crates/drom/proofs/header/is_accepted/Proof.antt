@@ -9,11 +9,11 @@ use Rattle.drom.proofs.header.is_accepted.Tie as tie
 returns : tie.Need-returns
 returns c = rw (lt-ltb _ _ (c .if1 .taken))
 
-header-refusal-requires : tie.Need-header-refusal-requires
-header-refusal-requires c κs = search needs
+header-number-requires : tie.Need-header-number-requires
+header-number-requires c κs = search needs
 
 returns-2 : tie.Need-returns-2
-returns-2 c = rw (le-ltb _ _ (c .before .if1 .left)) (ap (λ (n : ℕ). eqb n 0) (c .header-refusal .ensures))
+returns-2 c = rw (le-ltb _ _ (c .before .if1 .left)) (ap (λ (n : ℕ). eqb n 0) (c .header-number .ensures))
 
 pub is-accepted-spec : {M : Type 1} → statement M
-is-accepted-spec = tie.close (tie.spec returns header-refusal-requires returns-2)
+is-accepted-spec = tie.close (tie.spec returns header-number-requires returns-2)

@@ -4,9 +4,6 @@ use lib.Dec.{ltb}
 use borrow.Author.Needs.{needs}
 use Rattle.drom.proofs.header.is_tbt3.Statement.{statement}
 use Rattle.drom.proofs.header.is_tbt3.Tie as tie
-use Rattle.drom.proofs.header.is_tbt3.Reads as reads
-use Rattle.drom.proofs.header.is_tbt3.Lts as lts
-use Rattle.bits.proofs.byte_at.Reads as byte-at-reads
 
 byte-at-requires : tie.Need-byte-at-requires
 byte-at-requires c κs = search needs

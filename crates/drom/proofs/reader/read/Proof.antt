@@ -15,14 +15,14 @@ use Rattle.drom.proofs.reader.read.Tie as tie
 refusal-requires : tie.Need-refusal-requires
 refusal-requires c κs = search needs
 
-refused-requires : tie.Need-refused-requires
-refused-requires c κs = search needs
+refused-report-requires : tie.Need-refused-report-requires
+refused-report-requires c κs = search needs
 
 returns : tie.Need-returns
 returns c =
     let refusal = c .before .before .refusal .ensures in
     let some : refusalOf (now (c .before .before .before .before .before .before .args .list)) (now (c .before .before .before .before .before .before .args .drom)) (length (now (c .before .before .before .before .before .before .args .out))) ≡ 0 → ⊥ = λ z. c .before .if1 .taken (refusal ∙ z) in
-    (c .refused .ensures ∙ ap refusedReport refusal ∙ sym (report-refused (now (c .before .before .before .before .before .before .args .list)) (now (c .before .before .before .before .before .before .args .drom)) (length (now (c .before .before .before .before .before .before .args .out))) some), sym (leaves-refused (now (c .before .before .before .before .before .before .args .list)) (now (c .before .before .before .before .before .before .args .drom)) (now (c .before .before .before .before .before .before .args .out)) some))
+    (c .refused-report .ensures ∙ ap refusedReport refusal ∙ sym (report-refused (now (c .before .before .before .before .before .before .args .list)) (now (c .before .before .before .before .before .before .args .drom)) (length (now (c .before .before .before .before .before .before .args .out))) some), sym (leaves-refused (now (c .before .before .before .before .before .before .args .list)) (now (c .before .before .before .before .before .before .args .drom)) (now (c .before .before .before .before .before .before .args .out)) some))
 
 header-values-requires : tie.Need-header-values-requires
 header-values-requires c κs = search needs
@@ -55,7 +55,7 @@ read-spec =
     tie.close
     (tie.spec
     refusal-requires
-    refused-requires
+    refused-report-requires
     returns
     header-values-requires
     walk-requires

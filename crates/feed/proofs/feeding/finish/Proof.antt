@@ -1,8 +1,9 @@
 use mathlib.Core.Path.{_≡_, sym, _∙_}
+use mathlib.Core.Logic.{inl, inr}
 use native.Mathlib.Omega.{arith}
 use lib.ListN.{length}
 use borrow.Author.Tests.{not-true, not-false}
-use Rattle.feed.proofs.OpenLaws.{finish-out, finish-missing, finish-well, finish-refused, finish-stopped}
+use Rattle.feed.proofs.FinishLaws.{finish-outside, finish-missing, finish-refused, finish-told}
 use borrow.Author.Needs.{needs}
 use Rattle.feed.proofs.feeding.finish.Statement.{statement}
 use Rattle.feed.proofs.feeding.finish.Tie as tie
@@ -14,7 +15,7 @@ refused-report-requires : tie.Need-refused-report-requires
 refused-report-requires c κs = search needs
 
 returns : tie.Need-returns
-returns c = c .refused-report .ensures ∙ sym (finish-out (c .before .before .before .before .args .state) (sym (c .before .before .in-bounds .ensures) ∙ not-true _ (c .before .if1 .taken)))
+returns c = c .refused-report .ensures ∙ sym (finish-outside (c .before .before .before .before .args .state) (sym (c .before .before .in-bounds .ensures) ∙ not-true _ (c .before .if1 .taken)))
 
 refused-report-requires-2 : tie.Need-refused-report-requires-2
 refused-report-requires-2 c κs = search needs
@@ -33,7 +34,7 @@ report-requires c κs = let l : length (c .before .before .before .before .befor
 returns-3 : tie.Need-returns-3
 returns-3 c =
     c .report .ensures
-    ∙ sym (finish-well (c .before .before .before .before .before .before .before .before .before .before .args .state) (sym (c .before .before .before .before .before .before .before .before .in-bounds .ensures) ∙ not-false _ (c .before .before .before .before .before .before .before .if1 .left)) (c .before .before .before .before .before .if2 .left) (c .before .before .if3 .taken))
+    ∙ sym (finish-told (c .before .before .before .before .before .before .before .before .before .before .args .state) (sym (c .before .before .before .before .before .before .before .before .in-bounds .ensures) ∙ not-false _ (c .before .before .before .before .before .before .before .if1 .left)) (c .before .before .before .before .before .if2 .left) (inl (c .before .before .if3 .taken)))
 
 refused-report-requires-3 : tie.Need-refused-report-requires-3
 refused-report-requires-3 c κs = search needs
@@ -41,7 +42,7 @@ refused-report-requires-3 c κs = search needs
 returns-4 : tie.Need-returns-4
 returns-4 c =
     c .refused-report3 .ensures
-    ∙ sym (finish-refused (c .before .before .before .before .before .before .before .before .before .before .before .args .state) (sym (c .before .before .before .before .before .before .before .before .before .in-bounds .ensures) ∙ not-false _ (c .before .before .before .before .before .before .before .before .if1 .left)) (c .before .before .before .before .before .before .if2 .left) (c .before .before .before .if3 .left) (c .before .if4 .taken))
+    ∙ sym (finish-refused (c .before .before .before .before .before .before .before .before .before .before .before .args .state) (sym (c .before .before .before .before .before .before .before .before .before .in-bounds .ensures) ∙ not-false _ (c .before .before .before .before .before .before .before .before .if1 .left)) (c .before .before .before .before .before .before .if2 .left) (let z = c .before .before .before .if3 .left in omega arith) (c .before .if4 .taken))
 
 slice-aggregate-report-2 : tie.Need-slice-aggregate-report-2
 slice-aggregate-report-2 c = search needs
@@ -52,7 +53,7 @@ report-requires-2 c κs = let l : length (c .before .before .before .before .bef
 returns-5 : tie.Need-returns-5
 returns-5 c =
     c .report2 .ensures
-    ∙ sym (finish-stopped (c .before .before .before .before .before .before .before .before .before .before .before .before .args .state) (sym (c .before .before .before .before .before .before .before .before .before .before .in-bounds .ensures) ∙ not-false _ (c .before .before .before .before .before .before .before .before .before .if1 .left)) (c .before .before .before .before .before .before .before .if2 .left) (c .before .before .if4 .left))
+    ∙ sym (finish-told (c .before .before .before .before .before .before .before .before .before .before .before .before .args .state) (sym (c .before .before .before .before .before .before .before .before .before .before .in-bounds .ensures) ∙ not-false _ (c .before .before .before .before .before .before .before .before .before .if1 .left)) (c .before .before .before .before .before .before .before .if2 .left) (inr (c .before .before .if4 .left)))
 
 pub finish-spec : {M : Type 1} → statement M
 finish-spec =

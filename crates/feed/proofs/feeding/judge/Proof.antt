@@ -1,42 +1,14 @@
-use borrow.Author.Tests.{lt-ltb, le-ltb, eq-eqb, ne-eqb}
 use Rattle.feed.specs.Run.{judged}
 use borrow.Author.Needs.{needs}
 use Rattle.feed.proofs.feeding.judge.Statement.{statement}
 use Rattle.feed.proofs.feeding.judge.Tie as tie
 
-stated-length-requires : tie.Need-stated-length-requires
-stated-length-requires c κs = search needs
-
-add-if1 : tie.Need-add-if1
-add-if1 c = search needs
+header-number-requires : tie.Need-header-number-requires
+header-number-requires c κs = search needs
 
 returns : tie.Need-returns
 unfolding judged
-returns c = rw (← c .before .before .stated-length .ensures, ne-eqb _ _ (c .if1 .taken))
-
-is-tbt3-requires : tie.Need-is-tbt3-requires
-is-tbt3-requires c κs = search needs
-
-returns-2 : tie.Need-returns-2
-unfolding judged
-returns-2 c = rw (← c .before .before .before .before .before .before .stated-length .ensures, eq-eqb _ _ (c .before .before .before .before .if1 .left), ← c .before .before .before .is-tbt3 .ensures, c .before .before .if2 .taken, lt-ltb _ _ (c .if3 .taken))
-
-returns-3 : tie.Need-returns-3
-unfolding judged
-returns-3 c = rw (← c .before .before .before .before .before .before .stated-length .ensures, eq-eqb _ _ (c .before .before .before .before .if1 .left), ← c .before .before .before .is-tbt3 .ensures, c .before .before .if2 .taken, le-ltb _ _ (c .if3 .left))
-
-returns-4 : tie.Need-returns-4
-unfolding judged
-returns-4 c = rw (← c .before .before .before .before .stated-length .ensures, eq-eqb _ _ (c .before .before .if1 .left), ← c .before .is-tbt3 .ensures, c .if2 .left)
+returns c = rw (c .header-number .ensures)
 
 pub judge-spec : {M : Type 1} → statement M
-judge-spec =
-    tie.close
-    (tie.spec
-    stated-length-requires
-    add-if1
-    returns
-    is-tbt3-requires
-    returns-2
-    returns-3
-    returns-4)
+judge-spec = tie.close (tie.spec header-number-requires returns)

@@ -1,11 +1,11 @@
-use mathlib.Core.Path.{_≡_, refl, sym, ap, _∙_}
-use Prim.Native.Nat.{ℕ, _+_, _-_, _≤_, _<_}
-use mathlib.Core.List.{List}
+use mathlib.Core.Path.{_≡_, sym, ap, _∙_}
+use Prim.Native.Nat.{ℕ, _+_, _-_, _<_}
 use native.Mathlib.Omega.{arith}
 use denote.Ref.{now}
-use lib.ListN.{length, getD, take, drop}
-use Rattle.feed.specs.Run.{run, passed}
-use Rattle.feed.proofs.AlongLaws.{Along, Whole, along-through, through-none, along-start, enough, unwritten, never, turned}
+use lib.ListN.{length, take, drop}
+use Rattle.feed.specs.Run.{run}
+use Rattle.feed.specs.Bounds.{passed}
+use Rattle.feed.proofs.AlongLaws.{Along, Whole, along-through, through-none, along-start, unwritten, never, turned}
 use borrow.Author.Needs.{needs}
 use Rattle.feed.proofs.feeding.take_entries.Statement.{statement}
 use Rattle.feed.proofs.feeding.take_entries.Tie as tie

@@ -7,7 +7,8 @@ use borrow.Author.Needs.{needs}
 use borrow.Rule.Slice.PartAt.{part-to-end}
 use lib.ListN.{drop}
 use lib.Seq.{getD-drop}
-use Rattle.bits.proofs.LawsFields.{Bytes, pack-all}
+use Rattle.bits.specs.Bits.{Bytes}
+use Rattle.bits.proofs.LawsFields.{pack-all}
 use Rattle.bits.proofs.LawsFront.{fitted, follows, put-le}
 use Rattle.record.specs.Record.{payloadOf}
 use Rattle.record.proofs.RecordLaws.{six-bytes}

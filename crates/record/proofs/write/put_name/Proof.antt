@@ -5,7 +5,8 @@ use native.Mathlib.Nat.{add-sub-cancel-left}
 use native.Mathlib.Omega.{arith}
 use borrow.Author.Needs.{needs}
 use lib.ListN.{take, drop}
-use Rattle.bits.proofs.LawsFields.{Bytes, pack-byte, pack-all, part-bytes}
+use Rattle.bits.specs.Bits.{Bytes}
+use Rattle.bits.proofs.LawsFields.{pack-byte, pack-all, part-bytes}
 use Rattle.bits.proofs.LawsFront.{fitted, follows, put-le}
 use Rattle.record.specs.Record.{payloadOf}
 use Rattle.record.proofs.write.put_name.Statement.{statement}

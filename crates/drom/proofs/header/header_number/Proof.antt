@@ -1,7 +1,7 @@
 use borrow.Author.Tests.{lt-ltb, le-ltb, eq-eqb, ne-eqb}
 use borrow.Author.Needs.{needs}
-use Rattle.drom.proofs.header.header_refusal.Statement.{statement}
-use Rattle.drom.proofs.header.header_refusal.Tie as tie
+use Rattle.drom.proofs.header.header_number.Statement.{statement}
+use Rattle.drom.proofs.header.header_number.Tie as tie
 
 stated-length-requires : tie.Need-stated-length-requires
 stated-length-requires c κs = search needs
@@ -24,8 +24,8 @@ returns-3 c = rw (← c .before .before .before .before .stated-length .ensures,
 returns-4 : tie.Need-returns-4
 returns-4 c = rw (← c .before .before .before .stated-length .ensures, eq-eqb _ _ (c .before .before .if1 .left), ← c .before .is-tbt3 .ensures, c .if2 .left)
 
-pub header-refusal-spec : {M : Type 1} → statement M
-header-refusal-spec =
+pub header-number-spec : {M : Type 1} → statement M
+header-number-spec =
     tie.close
     (tie.spec
     stated-length-requires

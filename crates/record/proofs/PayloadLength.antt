@@ -1,4 +1,4 @@
--- How many bytes the payload of an entry has, for each case of the enum. `bs` is the entry's bytes.
+-- How many bytes the payload of an entry has, for each case of the enum (`record-length`, proofs/Lengths.antt). `bs` is the entry's bytes.
 -- Assumes nothing.
 use mathlib.Core.List.{List}
 use Prim.Native.Nat.{ℕ, _+_, _-_, _*_}

@@ -221,3 +221,10 @@ fn states_at_the_borders_do_no_harm() {
         try_state(state, random, &mut lent);
     }
 }
+
+#[test]
+fn a_refusal_that_was_made_up_is_reported() {
+    let mut state = [0; STATE];
+    state[52] = 255;
+    assert_eq!(Feed::from_bytes(state).finish().number, 255);
+}

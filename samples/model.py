@@ -4,7 +4,7 @@
     samples/model.py 'read - 00000000000000000000000000030600030806 16368'     prints the answer of a case
     samples/model.py < crates/cases/stdin                                      prints each line whose answer is another, and a count
 
-It answers `read`, `structs`, `feed`, `part` and `entry` lines, as crates/cases/src/main.rt describes them, and `malformed` to others.
+It answers `read`, `structs`, `feed`, `part` and `entry` lines, as crates/replay/src/lib.rt describes them, and `malformed` to others.
 It is slow and plain: feeding keeps the bytes that came, and looks at them from their start each time."""
 import struct
 import sys

@@ -1,13 +1,14 @@
 -- Numbers to bytes and back, over the width.
 -- Assumes nothing.
-use Prim.Native.Nat.{ℕ, zero, suc, _+_, _-_, _*_, _/_, _%_, _^_, _<_, _≤_}
+use Prim.Native.Nat.{ℕ, zero, suc, _+_, _*_, _/_, _<_, _≤_}
 use mathlib.Core.List.{List, [], _∷_, _++_, append-nil}
 use mathlib.Core.Path.{_≡_, refl, ap, _∙_}
-use native.Mathlib.Nat.{pow-succ', pow-le-pow-right}
+use native.Mathlib.Nat.{add-zero}
 use native.Mathlib.Numerals.{add-one}
 use native.Mathlib.Omega.{arith}
 use lib.ListN.{length, getD, drop, length-append}
 use lib.Seq.{drop-cons, drop-length}
+use Rattle.bits.specs.Bits.{le4, le8}
 use Rattle.bits.specs.Front.{Put}
 use Rattle.bits.proofs.LawsFront.{fitted}
 use Rattle.capi.specs.Bytes.{le, numbersBytes, number, numberAt}
@@ -37,33 +38,30 @@ numbers-length (n ∷ ns) = length-append (le 8 n) (numbersBytes ns) ∙ omega (
 
 -- ---- the number of bytes
 
--- the loop that reads a number, from its last byte on: its start, a turn, its end
-pub number-start : (at width : ℕ) (bytes : List ℕ) → numberAt (at + width) (width - width) bytes ≡ 0
+-- the number of `width` bytes from `at + i` on, in the bytes themselves: of a written width it computes to a sum
+abbrev spelled : ℕ → ℕ → ℕ → List ℕ → ℕ
+spelled at i zero bytes = 0
+spelled at i (suc width) bytes = spelled at (suc i) width bytes * 256 + getD bytes (at + i) 0
+
+number-spelled : (at i width : ℕ) (bytes : List ℕ) → at + i + width ≤ length bytes → numberAt (at + i) width bytes ≡ spelled at i width bytes
 unfolding number
-number-start at width bytes = let e : width - width ≡ 0 = omega arith in rw e
+number-spelled at i zero bytes h = refl
+number-spelled at i (suc width) bytes h =
+    let next : suc (at + i) ≡ at + suc i = omega arith in
+    rw (drop-cons bytes (at + i) 0 (omega arith), next, number-spelled at (suc i) width bytes (omega arith))
 
-pub number-next : (at width i : ℕ) (bytes : List ℕ) → 0 < i → i ≤ width → at + width ≤ length bytes
-    → numberAt (at + (i - 1)) (width - (i - 1)) bytes ≡ numberAt (at + i) (width - i) bytes * 256 + getD bytes (at + (i - 1)) 0
-unfolding number
-number-next at width i bytes p h l =
-    let e : width - (i - 1) ≡ suc (width - i) = omega arith in
-    let f : at + i ≡ suc (at + (i - 1)) = omega arith in
-    rw (e, f, drop-cons bytes (at + (i - 1)) 0 (omega arith))
+-- one byte, and four and eight as the code reads them
+module _ (at : ℕ) (bytes : List ℕ) where
+  pub number-one : at + 1 ≤ length bytes → getD bytes at 0 ≡ numberAt at 1 bytes
+  number-one h = omega (arith, simp add-zero at (number-spelled at 0 1 bytes (omega arith)))
 
-pub number-end : (at width i : ℕ) (bytes : List ℕ) → i ≡ 0 → numberAt (at + i) (width - i) bytes ≡ numberAt at width bytes
-number-end at width i bytes p =
-    let e : width - i ≡ width = omega arith in
-    let f : at + i ≡ at = omega arith in
-    rw (e, f)
+  pub number-four : at + 4 ≤ length bytes
+      → le4 (getD bytes at 0) (getD bytes (at + 1) 0) (getD bytes (at + 2) 0) (getD bytes (at + 3) 0) ≡ numberAt at 4 bytes
+  number-four h = omega (arith, simp add-zero at (number-spelled at 0 4 bytes (omega arith)))
 
--- a byte more, and how far seven bytes go
-pub grows : (width i n b : ℕ) → 0 < i → i ≤ width → n < 256 ^ (width - i) → b < 256 → n * 256 + b < 256 ^ (width - (i - 1))
-grows width i n b p h l s =
-    let e : width - (i - 1) ≡ suc (width - i) = omega arith in
-    rw (e, pow-succ' 256 (width - i)) (omega arith)
-
-pub seven : (k n : ℕ) → k ≤ 7 → n < 256 ^ k → n < 0x100000000000000
-seven k n h l = omega (arith, pow-le-pow-right {n = 256} (omega arith) h)
+  pub number-eight : at + 8 ≤ length bytes
+      → le8 (getD bytes at 0) (getD bytes (at + 1) 0) (getD bytes (at + 2) 0) (getD bytes (at + 3) 0) (getD bytes (at + 4) 0) (getD bytes (at + 5) 0) (getD bytes (at + 6) 0) (getD bytes (at + 7) 0) ≡ numberAt at 8 bytes
+  number-eight h = omega (arith, simp add-zero at (number-spelled at 0 8 bytes (omega arith)))
 
 -- ---- a whole table
 

@@ -1,12 +1,13 @@
 -- A report's bytes and a state's, and a state read back from its bytes.
 -- Assumes nothing.
-use Prim.Native.Nat.{ℕ, zero, suc, _*_, _/_, _^_, _<_}
+use Prim.Native.Nat.{ℕ, zero, suc, _*_, _/_, _^_, _<_, _≤_, _+_}
 use mathlib.Core.List.{List, [], _++_, append-assoc, append-nil}
 use mathlib.Core.Path.{_≡_, refl, sym, ap, _∙_}
 use native.Mathlib.Nat.{pow-succ'}
 use native.Mathlib.Omega.{arith}
-use lib.ListN.{length, take, drop, length-append}
-use lib.Seq.{take-at, drop-at}
+use lib.ListN.{length, take, drop, length-append, length-drop, take-append-drop}
+use lib.Seq.{take-at, drop-at, drop-drop, length-take-le}
+use Rattle.bits.specs.Front.{onto}
 use Rattle.drom.specs.declared.reader.Report.{Report}
 use Rattle.feed.specs.declared.feeding.Core.{Core}
 use Rattle.feed.specs.declared.feeding.State.{State}
@@ -33,6 +34,15 @@ module _ (s : State) (h : length (s .header) ≡ 16) (p : length (s .pending) �
 
   pub to-kinds : length (s .kinds) ≡ 64 → length (stateBytes s) ≡ stateSize
   to-kinds k = length-append (coreBytes (s .core) ++ s .header ++ s .pending) (s .kinds) ∙ omega (arith, to-pending)
+
+-- Bytes that are written as they stood change nothing.
+pub as-stood : (p before : List ℕ) (k : ℕ) → length p + k ≤ length before → onto p before ≡ onto (p ++ take k (drop (length p) before)) before
+as-stood p before k h =
+    let rest : List ℕ = drop (length p) before in
+    let all : length (p ++ take k rest) ≡ length p + k = length-append p (take k rest) ∙ omega (arith, length-take-le k rest (omega (arith, length-drop (length p) before))) in
+    ap (λ (l : List ℕ). p ++ l) (sym (take-append-drop k rest))
+    ∙ sym (append-assoc p (take k rest) (drop k rest))
+    ∙ ap (λ (l : List ℕ). (p ++ take k rest) ++ l) (drop-drop k (length p) before ∙ ap (λ (n : ℕ). drop n before) (sym all))
 
 -- What the types say of a state: how wide its numbers and how long its tables are.
 pub record Typed (s : State) : Type 0 where

@@ -3,11 +3,13 @@ ghost use mathlib.Core.Path.{_≡_};
 ghost use mathlib.Core.Bool.{cond};
 ghost use Prim.Native.Nat.{_+_, _≤_};
 ghost use lib.ListN.{length};
-ghost use Rattle.bits.specs.Front.{Wrote};
-ghost use Rattle.capi.specs.Bytes.{numberAt};
+ghost use Rattle.bits.specs.Front.{onto, Wrote};
+ghost use Rattle.feed.specs.Feed.{stateOf};
+ghost use Rattle.capi.specs.Bytes.{part, numberAt};
 ghost use Rattle.capi.specs.State.{stateSize, coreBytes, stateBytes, coreIn, stateIn};
 ghost use Rattle.capi.specs.Calls.{noState, openAnswer, openState, openNext, feedAnswer, feedState, feedRecords, feedNext, finishAnswer, finishReport, countAnswer, bytesAnswer};
-use super::numbers::number_at;
+use super::numbers::eight_at;
+use super::numbers::four_at;
 use super::numbers::put_four;
 use super::numbers::put_numbers;
 use super::reading::put_report;
@@ -43,38 +45,69 @@ fn put_state(s: State, out: &mut [u8]) -> usize
     324 + bits::put_all(&s.kinds, &mut out[324..])
 }
 
+// What a feed changes of a state: all but the kinds, which stay where they are.
+fn put_changed(core: Core, header: &[u8; 16], pending: &[u8; 255], out: &mut [u8])
+    requires { ⌜ stateSize ≤ length (now out) ⌝ }
+    ensures bytes { λ r. ⌜ now (out .exit) ≡ onto (stateBytes (stateOf core (now (header .entry)) (now (pending .entry)) (part 324 64 (now (out .entry))))) (now (out .entry)) ⌝ }
+    ensures back { λ r. ⌜ stateIn (now (out .exit)) ≡ stateOf core (now (header .entry)) (now (pending .entry)) (part 324 64 (now (out .entry))) ⌝ }
+{
+    put_core(core, out);
+    bits::put_all(header, &mut out[53..]);
+    bits::put_all(pending, &mut out[69..]);
+}
+
 fn core_in(bytes: &[u8]) -> Core
     requires { ⌜ stateSize ≤ length (now bytes) ⌝ }
     ensures { λ r. ⌜ r ≡ coreIn (now (bytes .entry)) ⌝ }
 {
     Core {
-        announced: number_at(bytes, 0, 8),
-        taken: number_at(bytes, 8, 8),
-        refusal: number_at(bytes, 52, 1) as u8,
-        offset: number_at(bytes, 16, 8),
-        register: number_at(bytes, 48, 4) as u32,
-        fill: number_at(bytes, 24, 8),
-        count: number_at(bytes, 32, 8),
-        written: number_at(bytes, 40, 8),
+        announced: eight_at(bytes, 0),
+        taken: eight_at(bytes, 8),
+        refusal: bytes[52],
+        offset: eight_at(bytes, 16),
+        register: four_at(bytes, 48),
+        fill: eight_at(bytes, 24),
+        count: eight_at(bytes, 32),
+        written: eight_at(bytes, 40),
     }
+}
+
+fn header_in(bytes: &[u8]) -> [u8; 16]
+    requires { ⌜ stateSize ≤ length (now bytes) ⌝ }
+    ensures { λ r. ⌜ r ≡ part 53 16 (now (bytes .entry)) ⌝ }
+{
+    let mut header = [0u8; 16];
+    bits::put_all(&bytes[53..69], &mut header);
+    header
+}
+
+fn pending_in(bytes: &[u8]) -> [u8; 255]
+    requires { ⌜ stateSize ≤ length (now bytes) ⌝ }
+    ensures { λ r. ⌜ r ≡ part 69 255 (now (bytes .entry)) ⌝ }
+{
+    let mut pending = [0u8; 255];
+    bits::put_all(&bytes[69..324], &mut pending);
+    pending
+}
+
+fn kinds_in(bytes: &[u8]) -> [u8; 64]
+    requires { ⌜ stateSize ≤ length (now bytes) ⌝ }
+    ensures { λ r. ⌜ r ≡ part 324 64 (now (bytes .entry)) ⌝ }
+{
+    let mut kinds = [0u8; 64];
+    bits::put_all(&bytes[324..388], &mut kinds);
+    kinds
 }
 
 fn state_in(bytes: &[u8]) -> State
     requires { ⌜ stateSize ≤ length (now bytes) ⌝ }
     ensures { λ r. ⌜ r ≡ stateIn (now (bytes .entry)) ⌝ }
 {
-    let core = core_in(bytes);
-    let mut header = [0u8; 16];
-    bits::put_all(&bytes[53..69], &mut header);
-    let mut pending = [0u8; 255];
-    bits::put_all(&bytes[69..324], &mut pending);
-    let mut kinds = [0u8; 64];
-    bits::put_all(&bytes[324..388], &mut kinds);
     State {
-        core,
-        header,
-        pending,
-        kinds,
+        core: core_in(bytes),
+        header: header_in(bytes),
+        pending: pending_in(bytes),
+        kinds: kinds_in(bytes),
     }
 }
 
@@ -106,9 +139,12 @@ pub extern "C" fn drom_feed(state: &mut [u8], piece: &[u8], records: &mut [u8]) 
     if state.len() < 388 {
         return 255;
     }
-    let s = state_in(state);
-    let fed = feed::feed(s, piece, records);
-    put_state(fed.state, state);
+    let core = core_in(state);
+    let mut header = header_in(state);
+    let mut pending = pending_in(state);
+    let kinds = kinds_in(state);
+    let fed = feed::feed_in_place(core, &mut header, &mut pending, &kinds, piece, records);
+    put_changed(fed.core, &header, &pending, state);
     fed.number
 }
 
@@ -139,7 +175,7 @@ fn state_number(state: &[u8], at: usize) -> usize
     if state.len() < 388 {
         return 0;
     }
-    number_at(state, at, 8)
+    eight_at(state, at)
 }
 
 // How many records were written for a state.

@@ -1,6 +1,6 @@
 // Numbers as bytes, least significant first.
 ghost use mathlib.Core.Path.{_≡_};
-ghost use Prim.Native.Nat.{_+_, _*_, _^_, _≤_, _<_};
+ghost use Prim.Native.Nat.{_+_, _*_, _≤_};
 ghost use lib.ListN.{length};
 ghost use Rattle.bits.specs.Front.{Wrote};
 ghost use Rattle.bits.specs.Bits.{flag};
@@ -48,22 +48,26 @@ pub(crate) fn as_number(b: bool) -> u64
     if b { 1 } else { 0 }
 }
 
-fn wide(x: u8) -> usize
-    ensures { λ r. ⌜ r ≡ x ⌝ }
+// The number of the eight bytes at an offset. Written out, so that they become one load.
+pub(crate) fn eight_at(bytes: &[u8], at: usize) -> usize
+    requires { ⌜ at + 8 ≤ length (now bytes) ⌝ }
+    ensures { λ r. ⌜ r ≡ numberAt at 8 (now (bytes .entry)) ⌝ }
 {
-    x as usize
+    bits::le64(
+        bytes[at],
+        bytes[at + 1],
+        bytes[at + 2],
+        bytes[at + 3],
+        bytes[at + 4],
+        bytes[at + 5],
+        bytes[at + 6],
+        bytes[at + 7],
+    ) as usize
 }
 
-// The number of `width` bytes at an offset, from the last of them on.
-pub(crate) fn number_at(bytes: &[u8], at: usize, width: usize) -> usize
-    requires { ⌜ (width ≤ 8) × (at + width ≤ length (now bytes)) ⌝ }
-    ensures { λ r. ⌜ (r ≡ numberAt at width (now (bytes .entry))) × (r < 256 ^ width) ⌝ }
+pub(crate) fn four_at(bytes: &[u8], at: usize) -> u32
+    requires { ⌜ at + 4 ≤ length (now bytes) ⌝ }
+    ensures { λ r. ⌜ r ≡ numberAt at 4 (now (bytes .entry)) ⌝ }
 {
-    let mut n: usize = 0;
-    let mut i = width;
-    while 0 < i {
-        i -= 1;
-        n = n * 256 + wide(bytes[at + i]);
-    }
-    n
+    bits::le32(bytes[at], bytes[at + 1], bytes[at + 2], bytes[at + 3])
 }

@@ -6,7 +6,7 @@ use mathlib.Core.List.{List, [], _∷_, _++_}
 use native.Mathlib.Omega.{arith}
 use native.Mathlib.Numerals.{add-one}
 use lib.ListN.{length, getD, take, drop, length-append, length-drop}
-use lib.Seq.{sets, take-all, take-add, take-suc, drop-cons, length-take-le, length-sets}
+use lib.Seq.{sets, take-all, take-add, drop-cons, length-take-le, length-sets}
 use Rattle.bits.specs.Bits.{Bytes}
 use Rattle.bits.specs.Front.{onto, Put}
 use Rattle.bits.proofs.LawsFront.{put-once, puts-sets}
@@ -20,7 +20,6 @@ use Rattle.feed.specs.declared.feeding.Core.{Core}
 use Rattle.feed.specs.Run.{Run, run, stepOf, steps}
 use Rattle.feed.specs.Bounds.{Good, Through, passed}
 use Rattle.feed.proofs.StepLaws.{steps-nil, steps-cons, steps-append}
-use Rattle.feed.proofs.MoveLaws.{step-moves}
 use Rattle.feed.proofs.EndLaws.{partOf, withPart, part-long, part-front}
 use Rattle.feed.proofs.EntryBytes.{placed, passes, Between, at-once}
 use Rattle.feed.proofs.FeedLaws.{Held, held-turn}
@@ -51,30 +50,12 @@ pub record Whole (xs : List ℕ) (i l : ℕ) (bytes : List ℕ) : Type 0 where
   pub whole : i + l ≤ length xs
   pub cut : bytes ≡ take l (drop i xs)
 
-pub along-through : (r₀ : Run) (xs : List ℕ) (r : Run) (i : ℕ) → Along r₀ xs r i → Through r₀ xs r
-along-through r₀ xs r i a =
-    let k : r .core .taken - r₀ .core .taken ≡ i = omega (arith, a .taken) in
-    record { same = a .same ∙ ap (λ (j : ℕ). steps r₀ (take j xs)) (sym k); up = omega (arith, a .taken); within = omega (arith, a .taken, a .up) }
-
-pub through-none : (r : Run) (xs : List ℕ) → Through r xs r
-through-none r xs =
-    let k : r .core .taken - r .core .taken ≡ 0 = omega arith in
-    record { same = sym (ap (λ (j : ℕ). steps r (take j xs)) k ∙ steps-nil r); up = omega arith; within = omega arith }
-
-pub through-step : (r : Run) (x : ℕ) (xs : List ℕ) (r′ : Run) → r′ ≡ stepOf r x → x ≡ getD xs 0 0 → 0 < length xs → Through r xs r′ × (r .core .taken < r′ .core .taken)
-through-step r x xs r′ e b z =
-    let n : r′ .core .taken ≡ r .core .taken + 1 = ap (λ (s : Run). s .core .taken) e ∙ step-moves r x .0 in
-    let k : r′ .core .taken - r .core .taken ≡ 1 = omega (arith, n) in
-    let one : take 1 xs ≡ x ∷ [] = take-suc xs 0 0 z ∙ ap (λ (y : ℕ). y ∷ []) (sym b) in (
-      record { same = e ∙ sym (ap (λ (j : ℕ). steps r (take j xs)) k ∙ ap (steps r) one ∙ steps-cons r x [] ∙ steps-nil (stepOf r x)); up = omega (arith, n); within = omega (arith, n) },
-      omega (arith, n),
-    )
+pub along-through : (r₀ : Run) (xs : List ℕ) (r : Run) (i : ℕ) → Along r₀ xs r i → Through r₀ xs i r
+along-through r₀ xs r i a = record { same = a .same; within = a .up }
 
 -- nothing was taken
-pub through-still : (r : Run) (xs : List ℕ) (r′ : Run) → Through r xs r′ → r′ .core .taken ≤ r .core .taken → r′ ≡ r
-through-still r xs r′ t h =
-    let k : r′ .core .taken - r .core .taken ≡ 0 = omega arith in
-    t .same ∙ ap (λ (j : ℕ). steps r (take j xs)) k ∙ steps-nil r
+pub through-still : (r : Run) (xs : List ℕ) (k : ℕ) (r′ : Run) → Through r xs k r′ → k ≡ 0 → r′ ≡ r
+through-still r xs k r′ t z = t .same ∙ ap (λ (j : ℕ). steps r (take j xs)) z ∙ steps-nil r
 
 module _ (c : Core) (h ks xs p₀ b₀ : List ℕ) where
   abbrev r₀ : Run
@@ -83,13 +64,19 @@ module _ (c : Core) (h ks xs p₀ b₀ : List ℕ) where
   abbrev now-at : ℕ → ℕ → ℕ → List ℕ → List ℕ → Run
   now-at i count written p b = run (passed c i count written) h p ks b
 
+  started : now-at 0 (c .count) (c .written) p₀ b₀ ≡ r₀
+  started = ap (λ (n : ℕ). run (record { announced = c .announced; taken = n; refusal = c .refusal; offset = c .offset; register = c .register; fill = c .fill; count = c .count; written = c .written }) h p₀ ks b₀) (omega arith)
+
+  pub through-none : Through r₀ xs 0 (now-at 0 (c .count) (c .written) p₀ b₀)
+  through-none = record { same = started ∙ sym (steps-nil r₀); within = omega arith }
+
   pub along-start : Good r₀ → c .refusal ≡ 0 → c .fill ≡ 0 → 16 ≤ c .taken → bodyStart h ≤ c .taken → length xs ≤ c .announced - c .taken
       → Along r₀ xs (now-at 0 (c .count) (c .written) p₀ b₀) 0
   along-start g z f t s l =
       let v = g .live z in
       let m = v .small t in
       record {
-        same = ap (λ (n : ℕ). run (record { announced = c .announced; taken = n; refusal = c .refusal; offset = c .offset; register = c .register; fill = c .fill; count = c .count; written = c .written }) h p₀ ks b₀) (omega arith) ∙ sym (steps-nil r₀);
+        same = through-none .same;
         taken = refl;
         up = omega arith;
         left = omega arith;
@@ -172,13 +159,12 @@ held-many (suc k) r₀ xs r i b h l =
     let z : i + 1 + k ≡ i + suc k = omega arith in
     rw (form, steps-cons) (subst (λ (n : ℕ). Held r₀ xs (steps (stepOf r x) (take k (drop (i + 1) xs))) n) z (held-many k r₀ xs (stepOf r x) (i + 1) b next (omega arith)))
 
-pub held-through : (r₀ : Run) (xs : List ℕ) (r : Run) (i : ℕ) (ys : List ℕ) (r′ : Run) → Bytes xs → Held r₀ xs r i → ys ≡ drop i xs → Through r ys r′
-    → Held r₀ xs r′ (i + (r′ .core .taken - r .core .taken))
-held-through r₀ xs r i ys r′ b h e t =
-    let k : ℕ = r′ .core .taken - r .core .taken in
+pub held-through : (r₀ : Run) (xs : List ℕ) (r : Run) (i : ℕ) (ys : List ℕ) (k : ℕ) (r′ : Run) → Bytes xs → Held r₀ xs r i → ys ≡ drop i xs → Through r ys k r′
+    → Held r₀ xs r′ (i + k)
+held-through r₀ xs r i ys k r′ b h e t =
     let size : length ys ≡ length xs - i = ap length e ∙ length-drop i xs in
     let led : steps r (take k (drop i xs)) ≡ r′ = sym (t .same ∙ ap (λ (v : List ℕ). steps r (take k v)) e) in
-    subst (λ (s : Run). Held r₀ xs s (i + k)) led (held-many k r₀ xs r i b h (omega (arith, t .within, t .up, size, h .up)))
+    subst (λ (s : Run). Held r₀ xs s (i + k)) led (held-many k r₀ xs r i b h (omega (arith, t .within, size, h .up)))
 
 -- after a refusal the rest is only counted
 pub held-passes : (r₀ : Run) (xs : List ℕ) (r : Run) (i : ℕ) → Bytes xs → Held r₀ xs r i → (r .core .refusal ≡ 0 → ⊥)

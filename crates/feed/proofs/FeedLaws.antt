@@ -1,7 +1,7 @@
 -- The test of the bounds and the bounds as facts; what holds in the loop over a piece; and the four answers of a feed.
 -- Assumes nothing.
 use Prim.Native.Nat.{ℕ, _+_, _-_, _*_, _^_, _≤_, _<_}
-use mathlib.Core.Path.{_≡_, refl, sym, ap, ap₂, subst, _∙_}
+use mathlib.Core.Path.{_≡_, refl, sym, subst, _∙_}
 use mathlib.Core.List.{List}
 use mathlib.Core.Bool.{Bool, true, false, cond, not, _&&_, _||_, false≢true}
 use native.Mathlib.Omega.{arith}
@@ -12,11 +12,10 @@ use lib.Dec.{ltb, leb, eqb}
 use borrow.Author.Tests.{lt-ltb, le-ltb, eq-eqb, ltb-true, ltb-false, eqb-true, leb-true, le-leb}
 use Rattle.drom.specs.Header.{bodyStart, isTbt3}
 use Rattle.feed.specs.declared.feeding.Core.{Core}
-use Rattle.feed.specs.declared.feeding.Fed.{Fed}
 use Rattle.feed.specs.declared.feeding.State.{State}
 use Rattle.feed.specs.Run.{Run, stepOf, steps}
 use Rattle.feed.specs.Bounds.{Live, Good}
-use Rattle.feed.specs.Feed.{inBounds, runIn, stateAfter, registerAfter, answer, both, feedOf}
+use Rattle.feed.specs.Feed.{inBounds, runIn, stateAfter, registerAfter, answer, feedOf}
 use Rattle.feed.proofs.StepLaws.{step-after}
 
 pub start-small : (h : List ℕ) → bodyStart h ≤ 22
@@ -142,9 +141,6 @@ pub held-end : (r₀ : Run) (xs : List ℕ) (r : Run) (i : ℕ) → Held r₀ xs
 held-end r₀ xs r i h t = sym (steps-done r xs i (omega arith)) ∙ h .same
 
 -- ---- the four answers of a feed
-
-pub both-is : (r : Fed) (n : ℕ) (s : State) (b b′ : List ℕ) → r .number ≡ n → r .state ≡ s → b ≡ b′ → both r b ≡ answer n s b′
-both-is r n s b b′ e f g = ap (λ (m : ℕ). answer m (r .state) b) e ∙ ap₂ (answer n) f g
 
 module _ (s : State) (xs b : List ℕ) where
   pub feed-out : inBounds (s .core) ≡ false → feedOf s xs b ≡ answer 18 s b

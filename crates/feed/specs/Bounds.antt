@@ -30,11 +30,10 @@ pub record Good (r : Run) : Type 0 where
 abbrev pub AnyHeader : (List ℕ → Run) → (List ℕ → Run) → Type 0
 AnyHeader f g = (h : List ℕ) → f h ≡ g h
 
--- a run leads to another by as many bytes at the front of a piece as the two differ in what was taken
-pub record Through (r : Run) (piece : List ℕ) (r′ : Run) : Type 0 where
-  pub same : r′ ≡ steps r (take (r′ .core .taken - r .core .taken) piece)
-  pub up : r .core .taken ≤ r′ .core .taken
-  pub within : r′ .core .taken ≤ r .core .taken + length piece
+-- k bytes at the front of a piece lead from a run to another
+pub record Through (r : Run) (piece : List ℕ) (k : ℕ) (r′ : Run) : Type 0 where
+  pub same : r′ ≡ steps r (take k piece)
+  pub within : k ≤ length piece
 
 -- whole entries were taken at once: i bytes, and so many records and record bytes in all
 abbrev pub passed : Core → ℕ → ℕ → ℕ → Core

@@ -30,15 +30,15 @@ missing = 13
 abbrev pub outside : ℕ
 outside = 18
 
+-- a state, of its numbers and its three tables
+abbrev pub stateOf : Core → List ℕ → List ℕ → List ℕ → State
+stateOf c header pending kinds = record { core = c; header = header; pending = pending; kinds = kinds }
+
 -- a state as an opening makes it
 abbrev pub fresh : ℕ → ℕ → List ℕ → State
 fresh size refusal kinds =
-    record {
-      core = record { announced = size; taken = 0; refusal = refusal; offset = 0; register = start32; fill = 0; count = 0; written = 0 };
-      header = replicate 16 0;
-      pending = replicate 255 0;
-      kinds = kinds;
-    }
+    stateOf (record { announced = size; taken = 0; refusal = refusal; offset = 0; register = start32; fill = 0; count = 0; written = 0 })
+    (replicate 16 0) (replicate 255 0) kinds
 
 -- "opening takes list, buffer and announced size and checks 5, 4, 1. A refused opening holds that number and an announced size of 0"
 abbrev pub openedBy : ℕ → List ℕ → ℕ → State
@@ -70,22 +70,18 @@ runIn s buffer = run (s .core) (s .header) (s .pending) (s .kinds) buffer
 -- the state of a run, with the register
 abbrev pub stateAfter : Run → ℕ → State
 stateAfter r register =
-    record {
-      core =
-          record {
-            announced = r .core .announced;
-            taken = r .core .taken;
-            refusal = r .core .refusal;
-            offset = r .core .offset;
-            register = register;
-            fill = r .core .fill;
-            count = r .core .count;
-            written = r .core .written;
-          };
-      header = r .header;
-      pending = r .pending;
-      kinds = r .kinds;
-    }
+    stateOf
+    (record {
+      announced = r .core .announced;
+      taken = r .core .taken;
+      refusal = r .core .refusal;
+      offset = r .core .offset;
+      register = register;
+      fill = r .core .fill;
+      count = r .core .count;
+      written = r .core .written;
+    })
+    (r .header) (r .pending) (r .kinds)
 
 -- a feed's number and state, and the buffer that it leaves
 pub record Answer : Type 0 where

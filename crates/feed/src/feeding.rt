@@ -3,11 +3,12 @@ ghost use mathlib.Core.Path.{_≡_};
 ghost use mathlib.Core.Bool.{true};
 ghost use Prim.Native.Nat.{_+_, _-_, _*_, _%_, _≤_, _<_};
 ghost use lib.ListN.{length, getD, replicate};
+ghost use Rattle.bits.specs.Front.{Put};
 ghost use Rattle.entry.specs.Decode.{numberOf};
 ghost use Rattle.feed.specs.Kinds.{tableOf};
 ghost use Rattle.feed.specs.Run.{run, judged, ended, kept, stepOf, steps};
 ghost use Rattle.feed.specs.Bounds.{Good, AnyHeader, Through, passed};
-ghost use Rattle.feed.specs.Feed.{fresh, openOf, inBounds, registerAfter, runIn, stateAfter, both, feedOf, told, finishOf};
+ghost use Rattle.feed.specs.Feed.{fresh, openOf, inBounds, registerAfter, stateOf, stateAfter, both, answer, feedOf, told, finishOf};
 use drom::Report;
 use drom::header::body_start;
 use drom::header::header_number;
@@ -48,7 +49,8 @@ fn wide(x: u8) -> usize
 // ---- one byte
 
 // The kind in the table for an entry's number: that of its second byte, or 0.
-fn kind_for(kinds: &[u8; 64], entry: &[u8]) -> u8
+fn kind_for(kinds: &[u8], entry: &[u8]) -> u8
+    requires { ⌜ length (now kinds) ≡ 64 ⌝ }
     ensures { λ r. ⌜ r ≡ getD (now (kinds .entry)) (numberOf (now (entry .entry))) 0 ⌝ }
 {
     if entry.len() < 2 {
@@ -59,8 +61,8 @@ fn kind_for(kinds: &[u8; 64], entry: &[u8]) -> u8
 }
 
 // Writes the record of the entry that is pending behind the others, or refuses it.
-fn complete(core: Core, pending: &[u8], kinds: &[u8; 64], records: &mut [u8]) -> Core
-    requires { ⌜ (length (now pending) ≡ 255) × (core .fill ≤ 254) × (core .fill < core .taken) × (core .written + 4 * (core .fill + 1) ≤ length (now records)) × (core .written < 20000) × (core .count < 20000) ⌝ }
+fn complete(core: Core, pending: &[u8], kinds: &[u8], records: &mut [u8]) -> Core
+    requires { ⌜ (length (now pending) ≡ 255) × (length (now kinds) ≡ 64) × (core .fill ≤ 254) × (core .fill < core .taken) × (core .written + 4 * (core .fill + 1) ≤ length (now records)) × (core .written < 20000) × (core .count < 20000) ⌝ }
     ensures { λ r. ⌜ AnyHeader (λ h. run r h (now (pending .entry)) (now (kinds .entry)) (now (records .exit))) (λ h. ended (run core h (now (pending .entry)) (now (kinds .entry)) (now (records .entry)))) ⌝ }
 {
     let end = core.fill + 1;
@@ -87,8 +89,8 @@ fn complete(core: Core, pending: &[u8], kinds: &[u8; 64], records: &mut [u8]) ->
 }
 
 // Keeps a byte of an entry; with its last, the entry is whole.
-fn keep(core: Core, b: u8, pending: &mut [u8; 255], kinds: &[u8; 64], records: &mut [u8]) -> Core
-    requires { ⌜ (core .fill ≤ 254) × (core .fill < core .taken) × (core .written + 4 * (core .fill + 1) ≤ length (now records)) × (core .written < 20000) × (core .count < 20000) ⌝ }
+fn keep(core: Core, b: u8, pending: &mut [u8], kinds: &[u8], records: &mut [u8]) -> Core
+    requires { ⌜ (length (now pending) ≡ 255) × (length (now kinds) ≡ 64) × (core .fill ≤ 254) × (core .fill < core .taken) × (core .written + 4 * (core .fill + 1) ≤ length (now records)) × (core .written < 20000) × (core .count < 20000) ⌝ }
     ensures { λ r. ⌜ AnyHeader (λ h. run r h (now (pending .exit)) (now (kinds .entry)) (now (records .exit))) (λ h. kept (run core h (now (pending .entry)) (now (kinds .entry)) (now (records .entry))) b) ⌝ }
 {
     let fill = core.fill;
@@ -116,9 +118,9 @@ fn judge(core: Core, header: &[u8]) -> Core
 fn step(
     core: Core,
     b: u8,
-    header: &mut [u8; 16],
-    pending: &mut [u8; 255],
-    kinds: &[u8; 64],
+    header: &mut [u8],
+    pending: &mut [u8],
+    kinds: &[u8],
     records: &mut [u8],
 ) -> Core
     requires { ⌜ Good (run core (now header) (now pending) (now kinds) (now records)) × (core .taken < core .announced) ⌝ }
@@ -215,102 +217,111 @@ fn whole_at(piece: &[u8], i: usize) -> usize
     if piece.len() - i < l { 0 } else { l }
 }
 
-fn passed_to(core: Core, i: usize, count: usize, written: usize) -> Core
-    requires { ⌜ core .taken + i ≤ core .announced ⌝ }
-    ensures { λ r. ⌜ r ≡ passed core i count written ⌝ }
+// The bytes of a whole entry, to the front of the pending ones. One of a single byte takes no call.
+fn keep_whole(bytes: &[u8], pending: &mut [u8]) -> usize
+    ensures { λ r. ⌜ Put (now (bytes .entry)) (now (pending .entry)) (now (pending .exit)) r ⌝ }
 {
-    let mut c = core;
-    c.taken = core.taken + i;
-    c.count = count;
-    c.written = written;
-    c
+    if bytes.len() == 1 {
+        return bits::put1(bytes[0], pending);
+    }
+    bits::put_all(bytes, pending)
+}
+
+// How far whole entries lead: so many bytes, and with them so many records and record bytes in all.
+struct Passed {
+    bytes: usize,
+    count: usize,
+    written: usize,
 }
 
 // The entries that a piece has whole at its front, up to one that is refused, without a step for each byte.
 fn take_entries(
     core: Core,
-    header: &[u8; 16],
+    header: &[u8],
     piece: &[u8],
-    pending: &mut [u8; 255],
-    kinds: &[u8; 64],
+    pending: &mut [u8],
+    kinds: &[u8],
     records: &mut [u8],
-) -> Core
+) -> Passed
     requires { ⌜ Good (run core (now header) (now pending) (now kinds) (now records)) × (core .refusal ≡ 0) × (core .fill ≡ 0) × (length (now piece) ≤ core .announced - core .taken) ⌝ }
-    ensures { λ r. ⌜ Through (run core (now (header .entry)) (now (pending .entry)) (now (kinds .entry)) (now (records .entry))) (now (piece .entry)) (run r (now (header .entry)) (now (pending .exit)) (now (kinds .entry)) (now (records .exit))) ⌝ }
+    ensures { λ r. ⌜ Through (run core (now (header .entry)) (now (pending .entry)) (now (kinds .entry)) (now (records .entry))) (now (piece .entry)) (r .bytes) (run (passed core (r .bytes) (r .count) (r .written)) (now (header .entry)) (now (pending .exit)) (now (kinds .entry)) (now (records .exit))) ⌝ }
 {
     let mut i: usize = 0;
     let mut count = core.count;
     let mut written = core.written;
     if core.taken < 16 {
-        return core;
+        return Passed {
+            bytes: 0,
+            count,
+            written,
+        };
     }
     if core.taken < body_start(header) {
-        return core;
+        return Passed {
+            bytes: 0,
+            count,
+            written,
+        };
     }
     while i < piece.len() {
         let l = whole_at(piece, i);
         if l == 0 {
-            return passed_to(core, i, count, written);
+            return Passed {
+                bytes: i,
+                count,
+                written,
+            };
         }
         let end = i + l;
         let bytes = &piece[i..end];
         let kind = kind_for(kinds, bytes);
         match record::write_entry(bytes, kind, core.taken + i, &mut records[written..]) {
             Written::Record(n) => {
-                bits::put_all(bytes, pending);
+                keep_whole(bytes, pending);
                 i = end;
                 count += 1;
                 written += n;
             }
             Written::Refused(_) => {
-                return passed_to(core, i, count, written);
+                return Passed {
+                    bytes: i,
+                    count,
+                    written,
+                };
             }
             Written::NoRoom => {
-                return passed_to(core, i, count, written);
+                return Passed {
+                    bytes: i,
+                    count,
+                    written,
+                };
             }
         }
     }
-    passed_to(core, i, count, written)
+    Passed {
+        bytes: i,
+        count,
+        written,
+    }
 }
 
-// Takes in some of a piece: the entries that it has whole at its front or, where there is none, a byte.
-fn take_some(
-    core: Core,
-    header: &mut [u8; 16],
+// The loop over a piece. The entries that it has whole, and a byte in the middle of an entry, take no step.
+fn take_in(
+    first: Core,
+    header: &mut [u8],
     piece: &[u8],
-    pending: &mut [u8; 255],
-    kinds: &[u8; 64],
+    pending: &mut [u8],
+    kinds: &[u8],
     records: &mut [u8],
 ) -> Core
-    requires { ⌜ Good (run core (now header) (now pending) (now kinds) (now records)) × (core .refusal ≡ 0) × (0 < length (now piece)) × (length (now piece) ≤ core .announced - core .taken) ⌝ }
-    ensures { λ r. ⌜ Through (run core (now (header .entry)) (now (pending .entry)) (now (kinds .entry)) (now (records .entry))) (now (piece .entry)) (run r (now (header .exit)) (now (pending .exit)) (now (kinds .entry)) (now (records .exit))) × (core .taken < r .taken) ⌝ }
+    requires { ⌜ (inBounds first ≡ true) × (length (now header) ≡ 16) × (length (now pending) ≡ 255) × (length (now kinds) ≡ 64) × (16368 ≤ length (now records)) × (length (now piece) ≤ first .announced - first .taken) ⌝ }
+    ensures state { λ r. ⌜ stateOf r (now (header .exit)) (now (pending .exit)) (now (kinds .entry)) ≡ stateAfter (steps (run first (now (header .entry)) (now (pending .entry)) (now (kinds .entry)) (now (records .entry))) (now (piece .entry))) (registerAfter (first .register) (first .taken) (now (piece .entry))) ⌝ }
+    ensures buffer { λ r. ⌜ now (records .exit) ≡ steps (run first (now (header .entry)) (now (pending .entry)) (now (kinds .entry)) (now (records .entry))) (now (piece .entry)) .buffer ⌝ }
 {
-    let b = piece[0];
-    if core.fill != 0 {
-        return step(core, b, header, pending, kinds, records);
-    }
-    let c = take_entries(core, header, piece, pending, kinds, records);
-    if core.taken < c.taken {
-        return c;
-    }
-    step(c, b, header, pending, kinds, records)
-}
-
-// The loop over a piece. A byte in the middle of an entry is kept without a call.
-fn take_in(state: State, piece: &[u8], records: &mut [u8]) -> Fed
-    requires { ⌜ (inBounds (state .core) ≡ true) × (16368 ≤ length (now records)) × (length (now piece) ≤ state .core .announced - state .core .taken) ⌝ }
-    ensures state { λ r. ⌜ r .state ≡ stateAfter (steps (runIn state (now (records .entry))) (now (piece .entry))) (registerAfter (state .core .register) (state .core .taken) (now (piece .entry))) ⌝ }
-    ensures number { λ r. ⌜ r .number ≡ 0 ⌝ }
-    ensures buffer { λ r. ⌜ now (records .exit) ≡ steps (runIn state (now (records .entry))) (now (piece .entry)) .buffer ⌝ }
-{
-    let mut core = state.core;
-    let register = register_after(core.register, core.taken, piece);
-    let mut header = state.header;
-    let mut pending = state.pending;
-    let kinds = state.kinds;
+    let register = register_after(first.register, first.taken, piece);
+    let mut core = first;
     let mut i: usize = 0;
     while i < piece.len() {
-        let b = piece[i];
         let at = core.taken;
         let fill = core.fill;
         if core.refusal != 0 {
@@ -318,11 +329,20 @@ fn take_in(state: State, piece: &[u8], records: &mut [u8]) -> Fed
             i = piece.len();
             continue;
         }
-        if fill != 0 {
+        if fill == 0 {
+            let p = take_entries(core, header, &piece[i..], pending, kinds, records);
+            if p.bytes != 0 {
+                core.taken = at + p.bytes;
+                core.count = p.count;
+                core.written = p.written;
+                i += p.bytes;
+                continue;
+            }
+        } else {
             if fill + 1 < wide(pending[0]) {
                 // Where something is pending the header is in, and a body starts at 22 or before.
                 if 21 < at {
-                    pending[fill] = b;
+                    pending[fill] = piece[i];
                     core.taken = at + 1;
                     core.fill = fill + 1;
                     i += 1;
@@ -330,20 +350,64 @@ fn take_in(state: State, piece: &[u8], records: &mut [u8]) -> Fed
                 }
             }
         }
-        let c = take_some(
-            core,
-            &mut header,
-            &piece[i..],
-            &mut pending,
-            &kinds,
-            records,
-        );
-        i += c.taken - at;
-        core = c;
+        core = step(core, piece[i], header, pending, kinds, records);
+        i += 1;
     }
     core.register = register;
-    Fed {
+    core
+}
+
+// A feed's number, and the numbers of the state that it leaves.
+pub struct FedCore {
+    pub number: u8,
+    pub core: Core,
+}
+
+// Takes a piece in: 18, 4 or 12 and everything as it was, or 0. The tables of the state are lent and stay where they are.
+pub fn feed_in_place(
+    core: Core,
+    header: &mut [u8; 16],
+    pending: &mut [u8; 255],
+    kinds: &[u8; 64],
+    piece: &[u8],
+    records: &mut [u8],
+) -> FedCore
+    ensures { λ r. ⌜ answer (r .number) (stateOf (r .core) (now (header .exit)) (now (pending .exit)) (now (kinds .entry))) (now (records .exit)) ≡ feedOf (stateOf core (now (header .entry)) (now (pending .entry)) (now (kinds .entry))) (now (piece .entry)) (now (records .entry)) ⌝ }
+{
+    if !in_bounds(core) {
+        return FedCore { number: 18, core };
+    }
+    if records.len() < 16368 {
+        return FedCore { number: 4, core };
+    }
+    if core.announced - core.taken < piece.len() {
+        return FedCore { number: 12, core };
+    }
+    let after = take_in(core, header, piece, pending, kinds, records);
+    FedCore {
         number: 0,
+        core: after,
+    }
+}
+
+// The same for a state by value.
+pub fn feed(state: State, piece: &[u8], records: &mut [u8]) -> Fed
+    ensures { λ r. ⌜ both r (now (records .exit)) ≡ feedOf state (now (piece .entry)) (now (records .entry)) ⌝ }
+{
+    let mut header = state.header;
+    let mut pending = state.pending;
+    let kinds = state.kinds;
+    let fed = feed_in_place(
+        state.core,
+        &mut header,
+        &mut pending,
+        &kinds,
+        piece,
+        records,
+    );
+    let core = fed.core;
+    Fed {
+        number: fed.number,
         state: State {
             core,
             header,
@@ -351,23 +415,6 @@ fn take_in(state: State, piece: &[u8], records: &mut [u8]) -> Fed
             kinds,
         },
     }
-}
-
-// Takes a piece in: 18, 4 or 12 and everything as it was, or 0.
-pub fn feed(state: State, piece: &[u8], records: &mut [u8]) -> Fed
-    ensures { λ r. ⌜ both r (now (records .exit)) ≡ feedOf state (now (piece .entry)) (now (records .entry)) ⌝ }
-{
-    let core = state.core;
-    if !in_bounds(core) {
-        return Fed { number: 18, state };
-    }
-    if records.len() < 16368 {
-        return Fed { number: 4, state };
-    }
-    if core.announced - core.taken < piece.len() {
-        return Fed { number: 12, state };
-    }
-    take_in(state, piece, records)
 }
 
 pub fn record_count(state: State) -> usize

@@ -10,11 +10,11 @@ use Rattle.capi.proofs.feeding.state_number.Tie as tie
 returns : tie.Need-returns
 returns c = rw (lt-ltb (length (now (c .before .before .args .state))) 388 (c .if1 .taken))
 
-number-at-requires : tie.Need-number-at-requires
-number-at-requires c κs = search needs
+eight-at-requires : tie.Need-eight-at-requires
+eight-at-requires c κs = search needs
 
 returns-2 : tie.Need-returns-2
-returns-2 c = rw (le-ltb (length (now (c .before .before .before .args .state))) 388 (c .before .if1 .left)) (c .number-at .ensures .0)
+returns-2 c = rw (le-ltb (length (now (c .before .before .before .args .state))) 388 (c .before .if1 .left)) (c .eight-at .ensures)
 
 pub state-number-spec : {M : Type 1} → statement M
-state-number-spec = tie.close (tie.spec returns number-at-requires returns-2)
+state-number-spec = tie.close (tie.spec returns eight-at-requires returns-2)

@@ -43,12 +43,12 @@ add-c c = search needs
 
 add-c-2 : tie.Need-add-c-2
 add-c-2 c =
-    let a = c .before .before .before .before .before .before .before .before .before .before .before .before .before .before .args in
+    let a = c .before .before .before .before .before .before .before .before .before .before .before .before .before .before .before .args in
     let r : Run = run (a .core) [] (now (a .pending)) (now (a .kinds)) (now (a .records)) in
-    let size : length (pendingEntry r) ≡ a .core .fill + 1 = length-take-le (a .core .fill + 1) (now (a .pending)) (omega (arith, c .before .before .before .before .before .before .before .before .before .before .before .before .before .before .pre)) in
-    let room : a .core .written + 4 * length (pendingEntry r) ≤ length (now (a .records)) = omega (arith, c .before .before .before .before .before .before .before .before .before .before .before .before .before .before .pre) in
+    let size : length (pendingEntry r) ≡ a .core .fill + 1 = length-take-le (a .core .fill + 1) (now (a .pending)) (omega (arith, c .before .before .before .before .before .before .before .before .before .before .before .before .before .before .before .pre)) in
+    let room : a .core .written + 4 * length (pendingEntry r) ≤ length (now (a .records)) = omega (arith, c .before .before .before .before .before .before .before .before .before .before .before .before .before .before .before .pre) in
     let small = written-record r _ _ (c .before .before .before .before .before .before .before .before .kind-for .ensures) room (c .before .before .before .before .before .before .write-by-row .ensures .1) _ (sym (c .before .before .before .before .before .before .write-by-row .ensures .0) ∙ c .before .before .n .given .1) .0 in
-    omega (arith, small, size, c .before .before .before .before .before .before .before .before .before .before .before .before .before .before .pre)
+    omega (arith, small, size, c .before .before .before .before .before .before .before .before .before .before .before .before .before .before .before .pre)
 
 enum-known-number : tie.Need-enum-known-number
 enum-known-number c = search needs
@@ -61,10 +61,10 @@ same-length c = search needs
 
 returns : tie.Need-returns
 returns c = λ h.
-    let a = c .before .before .before .before .before .before .before .before .before .before .before .before .before .before .args in
+    let a = c .before .before .before .before .before .before .before .before .before .before .before .before .before .before .before .args in
     let r : Run = run (a .core) h (now (a .pending)) (now (a .kinds)) (now (a .records)) in
-    let size : length (pendingEntry r) ≡ a .core .fill + 1 = length-take-le (a .core .fill + 1) (now (a .pending)) (omega (arith, c .before .before .before .before .before .before .before .before .before .before .before .before .before .before .pre)) in
-    let room : a .core .written + 4 * length (pendingEntry r) ≤ length (now (a .records)) = omega (arith, c .before .before .before .before .before .before .before .before .before .before .before .before .before .before .pre) in
+    let size : length (pendingEntry r) ≡ a .core .fill + 1 = length-take-le (a .core .fill + 1) (now (a .pending)) (omega (arith, c .before .before .before .before .before .before .before .before .before .before .before .before .before .before .before .pre)) in
+    let room : a .core .written + 4 * length (pendingEntry r) ≤ length (now (a .records)) = omega (arith, c .before .before .before .before .before .before .before .before .before .before .before .before .before .before .before .pre) in
     sym (written-record r _ _ (c .before .before .before .before .before .before .before .before .kind-for .ensures) room (c .before .before .before .before .before .before .write-by-row .ensures .1) _ (sym (c .before .before .before .before .before .before .write-by-row .ensures .0) ∙ c .before .before .n .given .1) .1)
 
 same-length-2 : tie.Need-same-length-2
@@ -72,10 +72,10 @@ same-length-2 c = search needs
 
 returns-2 : tie.Need-returns-2
 returns-2 c = λ h.
-    let a = c .before .before .before .before .before .before .before .before .before .before .before .before .before .args in
+    let a = c .before .before .before .before .before .before .before .before .before .before .before .before .before .before .args in
     let r : Run = run (a .core) h (now (a .pending)) (now (a .kinds)) (now (a .records)) in
-    let size : length (pendingEntry r) ≡ a .core .fill + 1 = length-take-le (a .core .fill + 1) (now (a .pending)) (omega (arith, c .before .before .before .before .before .before .before .before .before .before .before .before .before .pre)) in
-    let room : a .core .written + 4 * length (pendingEntry r) ≤ length (now (a .records)) = omega (arith, c .before .before .before .before .before .before .before .before .before .before .before .before .before .pre) in
+    let size : length (pendingEntry r) ≡ a .core .fill + 1 = length-take-le (a .core .fill + 1) (now (a .pending)) (omega (arith, c .before .before .before .before .before .before .before .before .before .before .before .before .before .before .pre)) in
+    let room : a .core .written + 4 * length (pendingEntry r) ≤ length (now (a .records)) = omega (arith, c .before .before .before .before .before .before .before .before .before .before .before .before .before .before .pre) in
     sym (written-refused r _ _ (c .before .before .before .before .before .before .before .kind-for .ensures) room (c .before .before .before .before .before .write-by-row .ensures .1) _ (sym (c .before .before .before .before .before .write-by-row .ensures .0) ∙ c .before .number .given .1))
 
 same-length-3 : tie.Need-same-length-3
@@ -83,10 +83,10 @@ same-length-3 c = search needs
 
 returns-3 : tie.Need-returns-3
 returns-3 c = λ h.
-    let a = c .before .before .before .before .before .before .before .before .before .before .before .before .args in
+    let a = c .before .before .before .before .before .before .before .before .before .before .before .before .before .args in
     let r : Run = run (a .core) h (now (a .pending)) (now (a .kinds)) (now (a .records)) in
-    let size : length (pendingEntry r) ≡ a .core .fill + 1 = length-take-le (a .core .fill + 1) (now (a .pending)) (omega (arith, c .before .before .before .before .before .before .before .before .before .before .before .before .pre)) in
-    let room : a .core .written + 4 * length (pendingEntry r) ≤ length (now (a .records)) = omega (arith, c .before .before .before .before .before .before .before .before .before .before .before .before .pre) in
+    let size : length (pendingEntry r) ≡ a .core .fill + 1 = length-take-le (a .core .fill + 1) (now (a .pending)) (omega (arith, c .before .before .before .before .before .before .before .before .before .before .before .before .before .pre)) in
+    let room : a .core .written + 4 * length (pendingEntry r) ≤ length (now (a .records)) = omega (arith, c .before .before .before .before .before .before .before .before .before .before .before .before .before .pre) in
     absurd (written-never r _ _ (c .before .before .before .before .before .before .kind-for .ensures) room (c .before .before .before .before .write-by-row .ensures .1) (sym (c .before .before .before .before .write-by-row .ensures .0) ∙ c .enum-told .given .1))
 
 pub complete-spec : {M : Type 1} → statement M

@@ -7,12 +7,12 @@ use borrow.Author.Needs.{needs}
 use Rattle.feed.proofs.feeding.kind_for.Statement.{statement}
 use Rattle.feed.proofs.feeding.kind_for.Tie as tie
 
-element-copy-out-result : tie.Need-element-copy-out-result
-element-copy-out-result c = search needs
+shared-slice-read-result : tie.Need-shared-slice-read-result
+shared-slice-read-result c = search needs
 
 returns : tie.Need-returns
 returns c =
-    ap (λ (n : ℕ). getD (now (c .before .before .before .args .kinds)) (n % 64) 0) (sym (no-second (now (c .before .before .before .args .entry)) (c .before .if1 .taken)))
+    ap (λ (n : ℕ). getD (now (c .before .before .before .before .args .kinds)) (n % 64) 0) (sym (no-second (now (c .before .before .before .before .args .entry)) (c .before .if1 .taken)))
 
 shared-slice-read-wide : tie.Need-shared-slice-read-wide
 shared-slice-read-wide c = search needs
@@ -20,19 +20,19 @@ shared-slice-read-wide c = search needs
 wide-requires : tie.Need-wide-requires
 wide-requires c κs = search needs
 
-element-copy-out-result-2 : tie.Need-element-copy-out-result-2
-element-copy-out-result-2 c = search needs
+shared-slice-read-result-2 : tie.Need-shared-slice-read-result-2
+shared-slice-read-result-2 c = search needs
 
 returns-2 : tie.Need-returns-2
-returns-2 c = ap (λ (n : ℕ). getD (now (c .before .before .before .before .before .args .kinds)) n 0) (c .before .wide .ensures)
+returns-2 c = ap (λ (n : ℕ). getD (now (c .before .before .before .before .before .before .args .kinds)) n 0) (c .before .wide .ensures)
 
 pub kind-for-spec : {M : Type 1} → statement M
 kind-for-spec =
     tie.close
     (tie.spec
-    element-copy-out-result
+    shared-slice-read-result
     returns
     shared-slice-read-wide
     wide-requires
-    element-copy-out-result-2
+    shared-slice-read-result-2
     returns-2)

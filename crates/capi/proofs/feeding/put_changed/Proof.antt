@@ -63,19 +63,7 @@ returns c =
     let front : List ℕ = coreBytes (s .core) ++ s .header ++ s .pending in
     let bytes = wrote .holds ∙ as-stood front out 64 (omega (arith, to-pending s h p, room)) ∙ ap (λ (n : ℕ). onto (front ++ take 64 (drop n out)) out) (to-pending s h p) in
     let g = c .before .before .before .before .before .before .before .before .before .before .before .before .before .before .before .good .0 in
-    let typed : Typed s = record {
-      announced = omega (arith, g);
-      taken = omega (arith, g);
-      offset = omega (arith, g);
-      fill = omega (arith, g);
-      count = omega (arith, g);
-      written = omega (arith, g);
-      register = omega (arith, g);
-      refusal = omega (arith, g);
-      header = h;
-      pending = p;
-      kinds = k;
-    } in
+    let typed : Typed s = search (needs, g, h, p, k) in
     (bytes, ap stateIn bytes ∙ read-back s _ typed)
 
 pub put-changed-spec : {M : Type 1} → statement M

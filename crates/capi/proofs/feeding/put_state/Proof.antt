@@ -66,19 +66,7 @@ returns c =
     let tables = follows 69 (sym (to-header s h p)) core (fitted (c .before .before .before .before .before .before .before .before .before .put-all2 .ensures) (search needs)) in
     let wrote = follows 324 (sym (to-pending s h p)) tables (fitted (c .before .before .put-all3 .ensures) (search needs)) in
     let g = c .before .before .before .before .before .before .before .before .before .before .before .before .before .before .before .before .before .before .before .before .before .before .before .before .before .before .before .good .0 in
-    let typed : Typed s = record {
-      announced = omega (arith, g);
-      taken = omega (arith, g);
-      offset = omega (arith, g);
-      fill = omega (arith, g);
-      count = omega (arith, g);
-      written = omega (arith, g);
-      register = omega (arith, g);
-      refusal = omega (arith, g);
-      header = h;
-      pending = p;
-      kinds = k;
-    } in
+    let typed : Typed s = search (needs, g, h, p, k) in
     (wrote, ap stateIn (wrote .holds) ∙ read-back s _ typed)
 
 pub put-state-spec : {M : Type 1} → statement M

@@ -1,3 +1,5 @@
+-- `feed::complete` meets its contract: the record stands behind the others, or the entry's refusal is told.
+-- Assumes nothing.
 use mathlib.Core.Path.{_≡_, sym, _∙_}
 use Prim.Native.Nat.{_+_, _*_, _≤_}
 use mathlib.Core.List.{[]}

@@ -1,5 +1,4 @@
 -- `feed::feed_in_place` meets its contract: the three refusals in their order, and else the loop's answer.
-
 -- Assumes nothing.
 use mathlib.Core.Path.{_≡_, sym, ap₂, _∙_}
 use mathlib.Core.Bool.{true}

@@ -1,3 +1,5 @@
+-- `feed::finish` meets its contract: 18, 13, the refusal of an opening or of a header, and else what the state tells.
+-- Assumes nothing.
 use mathlib.Core.Path.{_≡_, sym, _∙_}
 use mathlib.Core.Logic.{inl, inr}
 use native.Mathlib.Omega.{arith}

@@ -1,3 +1,5 @@
+-- `feed::fresh_core` meets its contract: the numbers that an opening starts with.
+-- Assumes nothing.
 use borrow.Author.Needs.{needs}
 use Rattle.feed.proofs.feeding.fresh_core.Statement.{statement}
 use Rattle.feed.proofs.feeding.fresh_core.Tie as tie

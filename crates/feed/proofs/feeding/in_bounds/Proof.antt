@@ -1,3 +1,5 @@
+-- `feed::in_bounds` meets its contract: each answer is the test's, as far as it was read.
+-- Assumes nothing.
 use borrow.Author.Tests.{lt-ltb, le-ltb, eq-eqb, ne-eqb, lt-leb, le-leb}
 use Rattle.feed.specs.Feed.{inBounds}
 use borrow.Author.Needs.{needs}

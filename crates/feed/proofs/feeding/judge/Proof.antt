@@ -1,3 +1,5 @@
+-- `feed::judge` meets its contract: the header's number and the offset 0 are set.
+-- Assumes nothing.
 use Rattle.feed.specs.Run.{judged}
 use borrow.Author.Needs.{needs}
 use Rattle.feed.proofs.feeding.judge.Statement.{statement}

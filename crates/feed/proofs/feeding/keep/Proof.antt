@@ -1,3 +1,5 @@
+-- `feed::keep` meets its contract: the byte is set, and with the entry's last one it is whole.
+-- Assumes nothing.
 use mathlib.Core.Path.{sym, _∙_}
 use denote.Ref.{now}
 use Rattle.feed.specs.Run.{run}

@@ -1,5 +1,4 @@
 -- `feed::keep_whole` meets its contract: bytes that are one byte are its list.
-
 -- Assumes nothing.
 use mathlib.Core.Path.{_≡_, sym, _∙_}
 use mathlib.Core.List.{List, [], _∷_}

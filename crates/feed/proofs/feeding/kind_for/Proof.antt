@@ -1,3 +1,5 @@
+-- `feed::kind_for` meets its contract: the second byte's low six bits, or 0 where there is none.
+-- Assumes nothing.
 use mathlib.Core.Path.{sym, ap}
 use Prim.Native.Nat.{ℕ, _%_}
 use denote.Ref.{now}

@@ -1,3 +1,5 @@
+-- `feed::open` meets its contract: 5, 4 and 1 in their order, and else a fresh state.
+-- Assumes nothing.
 use mathlib.Core.Path.{sym, ap₂, _∙_}
 use denote.Ref.{now}
 use lib.ListN.{length}

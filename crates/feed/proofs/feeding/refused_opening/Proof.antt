@@ -1,3 +1,5 @@
+-- `feed::refused_opening` meets its contract: a fresh state that holds the number, of announced size 0.
+-- Assumes nothing.
 use mathlib.Core.Path.{ap}
 use lib.ListN.{replicate}
 use Rattle.feed.specs.declared.feeding.Core.{Core}

@@ -1,3 +1,5 @@
+-- `feed::register_after` meets its contract: the bytes before 13 are skipped, in this piece or in those before.
+-- Assumes nothing.
 use mathlib.Core.Path.{_≡_, sym, ap, _∙_}
 use mathlib.Core.List.{List}
 use Prim.Native.Nat.{ℕ, _-_}

@@ -1,3 +1,5 @@
+-- `feed::report` meets its contract: the header's values, and what the state counted.
+-- Assumes nothing.
 use mathlib.Core.Path.{_≡_, _∙_}
 use borrow.Author.Tests.{le-ltb}
 use denote.Ref.{now}

@@ -1,3 +1,5 @@
+-- `feed::step` meets its contract: one way through for each case of `stepOf`, in its order.
+-- Assumes nothing.
 use mathlib.Core.Path.{sym, subst, _∙_}
 use Prim.Native.Nat.{ℕ, _≤_, _<_}
 use native.Mathlib.Omega.{arith}

@@ -1,3 +1,5 @@
+-- `feed::table_of` meets its contract: from the list's end, so that what was seen before is overwritten.
+-- Assumes nothing.
 use borrow.Author.Needs.{needs}
 use native.Mathlib.Omega.{arith}
 use Rattle.feed.proofs.OpenLaws.{Tabled, table-start, table-in, table-out, table-end}

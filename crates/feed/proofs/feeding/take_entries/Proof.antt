@@ -1,3 +1,5 @@
+-- `feed::take_entries` meets its contract: in the loop the entries so far lead where their bytes do, one by one.
+-- Assumes nothing.
 use mathlib.Core.Path.{_≡_, sym, ap, _∙_}
 use Prim.Native.Nat.{ℕ, _+_, _-_, _<_}
 use native.Mathlib.Omega.{arith}

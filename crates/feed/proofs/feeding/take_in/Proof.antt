@@ -1,5 +1,4 @@
 -- `feed::take_in` meets its contract: at each turn the rest of the piece leads where all of it led from the start.
-
 -- Assumes nothing.
 use borrow.Author.Needs.{needs}
 use mathlib.Core.Path.{_≡_, sym, ap, ap₂, subst, _∙_}

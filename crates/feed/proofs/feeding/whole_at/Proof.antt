@@ -1,3 +1,5 @@
+-- `feed::whole_at` meets its contract: the entry's length, where its bytes are there.
+-- Assumes nothing.
 use native.Mathlib.Omega.{arith}
 use borrow.Author.Needs.{needs}
 use Rattle.feed.proofs.feeding.whole_at.Statement.{statement}

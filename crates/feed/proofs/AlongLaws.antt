@@ -18,7 +18,7 @@ use Rattle.record.proofs.WriteLaws.{room-answer, room-leaves, answer-refused, a
 use Rattle.drom.specs.Header.{bodyStart}
 use Rattle.feed.specs.declared.feeding.Core.{Core}
 use Rattle.feed.specs.Run.{Run, run, stepOf, steps}
-use Rattle.feed.specs.Bounds.{Good, Through, passed}
+use Rattle.feed.specs.Loop.{Good, Through, passed}
 use Rattle.feed.proofs.StepLaws.{steps-nil, steps-cons, steps-append}
 use Rattle.feed.proofs.EndLaws.{partOf, withPart, part-long, part-front}
 use Rattle.feed.proofs.EntryBytes.{placed, passes, Between, at-once}

@@ -12,7 +12,9 @@ use lib.ListN.{length, length-append}
 use Rattle.drom.specs.Numbers.{firstOf}
 use Rattle.feed.specs.declared.feeding.State.{State}
 use Rattle.feed.specs.Run.{Run, steps}
-use Rattle.feed.specs.Feed.{inBounds, registerAfter, runIn, stateAfter, Answer, answer, feedTests, feedBy, feedOf}
+use Rattle.feed.specs.Bounds.{inBounds}
+use Rattle.feed.specs.Feed.{registerAfter, runIn, stateAfter, Answer, answer, feedTests, feedBy, feedOf}
+use Rattle.feed.proofs.BoundsLaws.{beside-register}
 use Rattle.feed.proofs.StepLaws.{steps-append}
 use Rattle.feed.proofs.FeedLaws.{feed-taken}
 use Rattle.feed.proofs.RegisterLaws.{register-append}
@@ -38,7 +40,7 @@ module _ (s : State) (xs b : List ℕ) where
 
   -- what an accepted feed says
   pub record Taken : Type 0 where
-    pub bounds : inBounds (s .core) ≡ true
+    pub bounds : inBounds (s .core) (s .header) (s .pending) ≡ true
     pub room : 16368 ≤ length b
     pub within : length xs ≤ s .core .announced - s .core .taken
 
@@ -47,9 +49,9 @@ module _ (s : State) (xs b : List ℕ) where
   taken-is t = feed-taken s xs b (t .bounds) (t .room) (t .within)
 
   tests-passed : firstOf (feedTests s xs (length b)) ≡ 0 → Taken
-  tests-passed = go (inBounds (s .core)) (ltb (length b) 16368) (ltb (s .core .announced - s .core .taken) (length xs)) refl refl refl
+  tests-passed = go (inBounds (s .core) (s .header) (s .pending)) (ltb (length b) 16368) (ltb (s .core .announced - s .core .taken) (length xs)) refl refl refl
     where
-      go : (t u v : Bool) → inBounds (s .core) ≡ t → ltb (length b) 16368 ≡ u → ltb (s .core .announced - s .core .taken) (length xs) ≡ v
+      go : (t u v : Bool) → inBounds (s .core) (s .header) (s .pending) ≡ t → ltb (length b) 16368 ≡ u → ltb (s .core .announced - s .core .taken) (length xs) ≡ v
           → firstOf ((not t, 18) ∷ (u, 4) ∷ (v, 12) ∷ []) ≡ 0 → Taken
       go false u v e f g h = absurd (omega arith)
       go true true v e f g h = absurd (omega arith)
@@ -71,16 +73,15 @@ module _ (s : State) (xs b : List ℕ) where
 -- ---- two feeds
 
 pub take-both : (s : State) (xs ys b : List ℕ) → Taken s xs b → length xs + length ys ≤ s .core .announced - s .core .taken
-    → inBounds (steps (runIn s b) xs .core) ≡ true
+    → inBounds (steps (runIn s b) xs .core) (steps (runIn s b) xs .header) (steps (runIn s b) xs .pending) ≡ true
     → feedOf (feedOf s xs b .fed .state) ys (feedOf s xs b .buffer) ≡ feedOf s (xs ++ ys) b
-unfolding inBounds
 take-both s xs ys b t w e =
     let r : Run = runIn s b in
     let r′ : Run = steps r xs in
     let c : ℕ = registerAfter (s .core .register) (s .core .taken) xs in
     let s′ : State = stateAfter r′ c in
     let m = steps-move r xs in
-    let u : Taken s′ ys (r′ .buffer) = record { bounds = e; room = omega (arith, m .2, t .room); within = omega (arith, m .0, m .1) } in
+    let u : Taken s′ ys (r′ .buffer) = record { bounds = beside-register r′ c (r′ .header) (r′ .pending) ∙ e; room = omega (arith, m .2, t .room); within = omega (arith, m .0, m .1) } in
     let v : Taken s (xs ++ ys) b = record { bounds = t .bounds; room = t .room; within = omega (arith, length-append xs ys) } in
     let on : steps (runIn s′ (r′ .buffer)) ys ≡ withRegister (steps r (xs ++ ys)) c =
     steps-beside r′ c ys ∙ ap (λ (x : Run). withRegister x c) (sym (steps-append r xs ys))
@@ -98,7 +99,6 @@ take-both s xs ys b t w e =
 pub cut : (s : State) (xs ys b : List ℕ) → feedOf s xs b .fed .number ≡ 0
     → feedOf (feedOf s xs b .fed .state) ys (feedOf s xs b .buffer) .fed .number ≡ 0
     → feedOf (feedOf s xs b .fed .state) ys (feedOf s xs b .buffer) ≡ feedOf s (xs ++ ys) b
-unfolding inBounds
 cut s xs ys b h g =
     let t = accepted s xs b h in
     let r : Run = runIn s b in
@@ -107,4 +107,4 @@ cut s xs ys b h g =
     let u = accepted (stateAfter (steps r xs) (registerAfter (s .core .register) (s .core .taken) xs)) ys (steps r xs .buffer)
     (subst (λ (a : Answer). feedOf (a .fed .state) ys (a .buffer) .fed .number ≡ 0) q g)
     in
-    take-both s xs ys b t (omega (arith, u .within, t .within, m .0, m .1)) (u .bounds)
+    take-both s xs ys b t (omega (arith, u .within, t .within, m .0, m .1)) (sym (beside-register (steps r xs) (registerAfter (s .core .register) (s .core .taken) xs) _ _) ∙ u .bounds)

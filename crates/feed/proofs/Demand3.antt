@@ -24,12 +24,12 @@ use Rattle.drom.specs.Report.{refusalOf, refusedReport, walkIn, reportOf, leave
 use Rattle.drom.proofs.ReportLaws.{report-walked, report-refused, leaves-walked, leaves-refused}
 use Rattle.feed.specs.declared.feeding.State.{State}
 use Rattle.feed.specs.declared.feeding.Fed.{Fed}
-use Rattle.feed.specs.Feed.{fresh, openOf, inBounds, runIn, Answer, answer, both, feedOf, told, finishOf}
+use Rattle.feed.specs.Bounds.{inBounds}
+use Rattle.feed.specs.Feed.{fresh, openOf, runIn, Answer, answer, both, feedOf, told, finishOf}
 use Rattle.feed.specs.Prefix.{prefixOf}
 use Rattle.feed.specs.Pieces.{feedMany, Told}
 use Rattle.feed.specs.Pieces.Left.{opened}
-use Rattle.feed.proofs.FeedLaws.{in-of}
-use Rattle.feed.proofs.Never.{fresh-sound, left-bounds}
+use Rattle.feed.proofs.Never.{open-in, left-bounds}
 use Rattle.feed.proofs.PrefixLaws.{prefix-refused, prefix-walked, prefix-whole, so-number}
 use Rattle.feed.proofs.Pieces.{many-left, open-refused, open-passed, open-number, closed, pieces}
 use Rattle.feed.proofs.FinishLaws.{finish-refused, finish-told, told-walked}
@@ -73,9 +73,8 @@ closed-as-whole list drom room h =
     let n : ℕ = firstOf (openTests list (length drom) room) in
     let kinds : List ℕ = replicate 64 0 in
     let s : State = fresh 0 n kinds in
-    let b : List ℕ = replicate 16368 0 in
-    let e : inBounds (s .core) ≡ true =
-    in-of (runIn s b) (fresh-sound 0 n kinds (omega arith) (length-replicate {A = ℕ} 64 0) b (omega (arith, length-replicate {A = ℕ} 16368 0)))
+    let e : inBounds (s .core) (s .header) (s .pending) ≡ true =
+    subst (λ (x : State). inBounds (x .core) (x .header) (x .pending) ≡ true) (open-refused list (length drom) room h) (open-in list (length drom) room)
     in
     let m = open-number list (length drom) room h in
     let q = refusal-closed list drom room h in
@@ -89,7 +88,7 @@ closed-as-whole list drom room h =
 abbrev Answers : List ℕ → List ℕ → List ℕ → Answer → Type 0
 Answers list drom b a = (finishOf (a .fed .state) ≡ reportOf list drom (length b)) × (a .buffer ≡ leavesOf list drom b)
 
-module _ (list drom b : List ℕ) (a : Answer) (o : firstOf (openTests list (length drom) (length b)) ≡ 0) (t : Told list (length drom) drom b a) (e : inBounds (a .fed .state .core) ≡ true) where
+module _ (list drom b : List ℕ) (a : Answer) (o : firstOf (openTests list (length drom) (length b)) ≡ 0) (t : Told list (length drom) drom b a) (e : inBounds (a .fed .state .core) (a .fed .state .header) (a .fed .state .pending) ≡ true) where
   long : 16 ≤ length drom
   long = open-passed list (length drom) (length b) o .1
 

@@ -20,22 +20,23 @@ use Rattle.drom.specs.HeaderValues.{valuesIn}
 use Rattle.drom.specs.Report.{refusedReport, reportWith, walkedReport}
 use Rattle.feed.specs.declared.feeding.Core.{Core}
 use Rattle.feed.specs.declared.feeding.State.{State}
-use Rattle.feed.specs.Feed.{inBounds, registerAfter, told, finishOf}
+use Rattle.feed.specs.Bounds.{inBounds}
+use Rattle.feed.specs.Feed.{registerAfter, told, finishOf}
 use Rattle.feed.proofs.RegisterLaws.{register-whole}
 use Rattle.feed.proofs.PrefixHeader.{length-of, tbt3-of, start-of}
 
 -- ---- case by case
 
 module _ (s : State) where
-  pub finish-outside : inBounds (s .core) ≡ false → finishOf s ≡ refusedReport 18
+  pub finish-outside : inBounds (s .core) (s .header) (s .pending) ≡ false → finishOf s ≡ refusedReport 18
   unfolding finishOf
   finish-outside b = rw b
 
-  pub finish-missing : inBounds (s .core) ≡ true → s .core .taken < s .core .announced → finishOf s ≡ refusedReport 13
+  pub finish-missing : inBounds (s .core) (s .header) (s .pending) ≡ true → s .core .taken < s .core .announced → finishOf s ≡ refusedReport 13
   unfolding finishOf
   finish-missing b h = rw (b, lt-ltb (s .core .taken) (s .core .announced) h)
 
-  module _ (b : inBounds (s .core) ≡ true) (h : s .core .announced ≤ s .core .taken) where
+  module _ (b : inBounds (s .core) (s .header) (s .pending) ≡ true) (h : s .core .announced ≤ s .core .taken) where
     pub finish-refused : 1 ≤ s .core .refusal → s .core .refusal ≤ 5 → finishOf s ≡ refusedReport (s .core .refusal)
     unfolding finishOf
     finish-refused p q = rw (b, le-ltb (s .core .taken) (s .core .announced) h, le-leb 1 (s .core .refusal) p, le-leb (s .core .refusal) 5 q)

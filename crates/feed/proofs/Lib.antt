@@ -1,4 +1,7 @@
+pub mod BoundsLaws
 pub mod StepLaws
+pub mod MoveLaws
+pub mod WithinLaws
 pub mod EndLaws
 pub mod EntryBytes
 pub mod AlongLaws
@@ -6,7 +9,6 @@ pub mod FeedLaws
 pub mod OpenLaws
 pub mod KindLaws
 pub mod RegisterLaws
-pub mod MoveLaws
 pub mod Cutting
 pub mod Never
 pub mod PrefixEntries
@@ -14,5 +16,6 @@ pub mod PrefixHeader
 pub mod PrefixLaws
 pub mod Pieces
 pub mod FinishLaws
+pub mod AnyState
 pub mod Demand3
 pub mod PrefixBegins

@@ -6,24 +6,24 @@ use mathlib.Core.Bool.{Bool, true, false, cond, not, _&&_}
 use mathlib.Core.List.{List, [], _∷_}
 use Prim.Native.Nat.{ℕ, suc, _-_, _+_, _%_, _^_, _≤_, _<_}
 use native.Mathlib.Omega.{arith}
-use borrow.Author.Tests.{eqb-true, eqb-false}
+use borrow.Author.Tests.{eqb-true, eqb-false, ltb-false, le-leb}
 use lib.Dec.{ltb, leb, eqb}
-use lib.ListN.{length, getD, set, replicate, length-replicate}
+use lib.ListN.{length, replicate, length-replicate}
 use Rattle.bits.specs.Bits.{Bytes}
-use Rattle.entry.specs.Decode.{numberOf}
-use Rattle.entry.proofs.FitLaws.{refused-number}
 use Rattle.drom.specs.Numbers.{firstOf}
-use Rattle.drom.specs.Header.{lengthIn, isTbt3, openTests, headerNumber}
+use Rattle.drom.specs.Header.{openTests}
 use Rattle.drom.specs.Report.{refusedReport}
 use Rattle.feed.specs.declared.feeding.State.{State}
 use Rattle.feed.specs.Kinds.{tableOf}
-use Rattle.feed.specs.Run.{Run, withPending, counted, pendingEntry, kept, stepOf, steps}
-use Rattle.feed.specs.Bounds.{Good}
-use Rattle.feed.specs.Feed.{fresh, openedBy, openOf, inBounds, registerAfter, runIn, stateAfter, Answer, feedOf, told, finishOf}
+use Rattle.feed.specs.Run.{Run, stepOf, steps}
+use Rattle.feed.specs.Loop.{Good}
+use Rattle.feed.specs.Bounds.{nothingRefused, openingRefused, inBounds}
+use Rattle.feed.specs.Feed.{fresh, openedBy, openOf, registerAfter, runIn, stateAfter, Answer, feedOf, told, finishOf}
 use Rattle.feed.specs.Pieces.{Left}
 use Rattle.feed.specs.Pieces.Left.{opened, fed}
-use Rattle.feed.proofs.StepLaws.{next, more, judged-is, ended-cases, kept-cases, step-cases, step-after, steps-nil, steps-cons}
-use Rattle.feed.proofs.FeedLaws.{in-of}
+use Rattle.feed.proofs.StepLaws.{step-after, steps-nil, steps-cons}
+use Rattle.feed.proofs.BoundsLaws.{refusal-most, beside-register}
+use Rattle.feed.proofs.WithinLaws.{steps-in}
 use Rattle.feed.proofs.KindLaws.{table-long}
 use Rattle.feed.proofs.Cutting.{feed-number, Taken, taken-is, accepted, feed-refused}
 
@@ -98,10 +98,33 @@ left-sound (fed {s} h xs b k) =
     feed-cases Sound s xs b g
     (λ t. after-sound (steps (runIn s b) xs) (registerAfter (s .core .register) (s .core .taken) xs) (steps-good (runIn s b) xs (g b (t .room)) k (t .within)))
 
-pub left-bounds : {s : State} → Left s → inBounds (s .core) ≡ true
-left-bounds {s} h =
-    let b : List ℕ = replicate 16368 0 in
-    in-of (runIn s b) (left-sound h b (omega (arith, length-replicate {A = ℕ} 16368 0)))
+-- ---- a state left passes the test of the bounds
+
+-- an opening that is not refused, of whatever list
+pub fresh-in : (size : ℕ) (kinds : List ℕ) → 16 ≤ size
+    → inBounds (fresh size 0 kinds .core) (fresh size 0 kinds .header) (fresh size 0 kinds .pending) ≡ true
+unfolding inBounds nothingRefused
+fresh-in size kinds h = rw (le-leb 0 size (omega arith), le-leb 16 size h)
+
+-- any opening, by its tests
+tested-in : (list : List ℕ) (size : ℕ) (o s f : Bool) → ltb size 16 ≡ f
+    → (let opened : State = openedBy (firstOf ((o, 5) ∷ (s, 4) ∷ (f, 1) ∷ [])) list size in inBounds (opened .core) (opened .header) (opened .pending) ≡ true)
+unfolding inBounds openingRefused
+tested-in list size true s f e = refl
+tested-in list size false true f e = refl
+tested-in list size false false true e = refl
+tested-in list size false false false e = fresh-in size (tableOf list) (ltb-false size 16 e)
+
+pub open-in : (list : List ℕ) (size room : ℕ) → inBounds (openOf list size room .core) (openOf list size room .header) (openOf list size room .pending) ≡ true
+unfolding openOf
+open-in list size room = tested-in list size (eqb (length list % 2) 1) (ltb room 16368) (ltb size 16) refl
+
+pub left-bounds : {s : State} → Left s → inBounds (s .core) (s .header) (s .pending) ≡ true
+left-bounds (opened list size room w) = open-in list size room
+left-bounds (fed {s} h xs b k) =
+    let e = left-bounds h in
+    feed-cases (λ (x : State). inBounds (x .core) (x .header) (x .pending) ≡ true) s xs b e
+    (λ t. beside-register (steps (runIn s b) xs) (registerAfter (s .core .register) (s .core .taken) xs) _ _ ∙ steps-in (runIn s b) xs e (t .within))
 
 -- the answer is 4, 12 or 0: never 18
 pub never : {s : State} → Left s → (xs b : List ℕ) → feedOf s xs b .fed .number ≡ 18 → ⊥
@@ -114,56 +137,9 @@ never {s} h xs b x = go (ltb (length b) 16368) (ltb (s .core .announced - s .cor
 
 -- ---- nor does a finish
 
-abbrev Small : Run → Type 0
-Small r = r .core .refusal ≤ 11
-
-header-number-small : (size : ℕ) (h : List ℕ) → headerNumber size h ≤ 11
-header-number-small size h = go (eqb (lengthIn h + 13) size) (isTbt3 h && ltb size 22)
-  where
-    go : (p q : Bool) → firstOf ((not p, 2) ∷ (q, 3) ∷ []) ≤ 11
-    go false q = omega arith
-    go true true = omega arith
-    go true false = omega arith
-
-kept-small : (r : Run) (b : ℕ) → Small r → Small (kept r b)
-kept-small r b h =
-    kept-cases r b Small (λ m. h)
-    (λ m.
-    let t : Run = withPending r (r .core) (more r b) in
-    ended-cases t Small (λ e q. h) (λ n q. refused-number (getD (t .kinds) (numberOf (pendingEntry t)) 0) (pendingEntry t) n q .1))
-
-step-small : (r : Run) (b : ℕ) → Small r → Small (stepOf r b)
-step-small r b h =
-    let x : List ℕ = set (r .header) (r .core .taken) b in
-    step-cases Small r b
-    (λ y. h)
-    (λ y n. h)
-    (λ y n. rw (judged-is (counted (r .core)) x) (header-number-small (r .core .announced) x))
-    (λ y n w. h)
-    (λ y n. omega arith)
-    (λ y n. omega arith)
-    (λ y n. kept-small (next r) b h)
-
-steps-small : (r : Run) (xs : List ℕ) → Small r → Small (steps r xs)
-steps-small r [] h = rw steps-nil h
-steps-small r (x ∷ xs) h = rw steps-cons (steps-small (stepOf r x) xs (step-small r x h))
-
-open-small : (list : List ℕ) (size room : ℕ) → openOf list size room .core .refusal ≤ 11
-unfolding openOf
-open-small list size room = go (eqb (length list % 2) 1) (ltb room 16368) (ltb size 16)
-  where
-    go : (o s f : Bool) → openedBy (firstOf ((o, 5) ∷ (s, 4) ∷ (f, 1) ∷ [])) list size .core .refusal ≤ 11
-    go true s f = omega arith
-    go false true f = omega arith
-    go false false true = omega arith
-    go false false false = omega arith
-
 -- a refusal held is one of 1 to 11
 pub left-refusal : {s : State} → Left s → s .core .refusal ≤ 11
-left-refusal (opened list size room w) = open-small list size room
-left-refusal (fed {s} h xs b k) =
-    let g = left-refusal h in
-    feed-cases (λ (x : State). x .core .refusal ≤ 11) s xs b g (λ t. steps-small (runIn s b) xs g)
+left-refusal {s} h = refusal-most (s .core) (s .header) (s .pending) (left-bounds h)
 
 pub finish-never : {s : State} → Left s → finishOf s .number ≡ 18 → ⊥
 unfolding finishOf

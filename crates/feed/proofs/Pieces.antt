@@ -22,17 +22,18 @@ use Rattle.drom.specs.Walk.{Walked}
 use Rattle.feed.specs.declared.feeding.State.{State}
 use Rattle.feed.specs.Kinds.{tableOf}
 use Rattle.feed.specs.Run.{Run, steps}
-use Rattle.feed.specs.Bounds.{Good}
+use Rattle.feed.specs.Bounds.{inBounds}
 use Rattle.feed.specs.Feed.{fresh, openedBy, openOf, registerAfter, runIn, stateAfter, Answer, answer, feedOf}
 use Rattle.feed.specs.Prefix.{prefixOf}
 use Rattle.feed.specs.Pieces.{feedMany, Left, Told}
 use Rattle.feed.specs.Pieces.Left.{fed}
 use Rattle.feed.proofs.StepLaws.{steps-nil}
-use Rattle.feed.proofs.FeedLaws.{in-of}
+use Rattle.feed.proofs.BoundsLaws.{beside-register}
+use Rattle.feed.proofs.WithinLaws.{steps-in}
 use Rattle.feed.proofs.KindLaws.{table-long, table-at}
 use Rattle.feed.proofs.MoveLaws.{steps-move}
 use Rattle.feed.proofs.Cutting.{Taken, taken-is, accepted, feed-refused, take-both}
-use Rattle.feed.proofs.Never.{steps-good, Sound, after-sound, fresh-sound}
+use Rattle.feed.proofs.Never.{fresh-in}
 use Rattle.feed.proofs.PrefixEntries.{kindsIn, Agrees}
 use Rattle.feed.proofs.PrefixHeader.{all-agree, header-is}
 use Rattle.feed.proofs.PrefixLaws.{prefix-same, prefix-room}
@@ -50,25 +51,24 @@ bytes-right xs ys k i = rw getD-append-add at (k (length xs + i))
 feed-none : (s : State) (b : List ℕ) → Taken s [] b → feedOf s [] b ≡ answer 0 s b
 feed-none s b t = taken-is s [] b t ∙ rw (steps-nil, drop-nil)
 
-pub many : (s : State) (ps : List (List ℕ)) (b : List ℕ) → Sound s → 16368 ≤ length b → Bytes (flatten ps) → length (flatten ps) ≤ s .core .announced - s .core .taken
+pub many : (s : State) (ps : List (List ℕ)) (b : List ℕ) → inBounds (s .core) (s .header) (s .pending) ≡ true → 16368 ≤ length b → length (flatten ps) ≤ s .core .announced - s .core .taken
     → feedMany (answer 0 s b) ps ≡ feedOf s (flatten ps) b
 unfolding flatten feedMany
-many s [] b g l k h = sym (feed-none s b (record { bounds = in-of (runIn s b) (g b l); room = l; within = h }))
-many s (p ∷ ps) b g l k h =
+many s [] b e l h = sym (feed-none s b (record { bounds = e; room = l; within = h }))
+many s (p ∷ ps) b e l h =
     let r : Run = runIn s b in
     let m = steps-move r p in
     let n = length-append p (flatten ps) in
-    let e = in-of r (g b l) in
-    let g′ = steps-good r p (g b l) (bytes-left p (flatten ps) k) (omega arith) in
+    let e′ = steps-in r p e (omega arith) in
     let t : Taken s p b = record { bounds = e; room = l; within = omega arith } in
     let q = taken-is s p b t in
     let c : ℕ = registerAfter (s .core .register) (s .core .taken) p in
     let s′ : State = stateAfter (steps r p) c in
     let b′ : List ℕ = steps r p .buffer in
     ap (λ (a : Answer). feedMany a ps) q
-    ∙ many s′ ps b′ (after-sound (steps r p) c g′) (omega (arith, m .2)) (bytes-right p (flatten ps) k) (omega (arith, m .0, m .1))
+    ∙ many s′ ps b′ (beside-register (steps r p) c (s′ .header) (s′ .pending) ∙ e′) (omega (arith, m .2)) (omega (arith, m .0, m .1))
     ∙ ap (λ (a : Answer). feedOf (a .fed .state) (flatten ps) (a .buffer)) (sym q)
-    ∙ take-both s p (flatten ps) b t (omega arith) (in-of (steps r p) g′)
+    ∙ take-both s p (flatten ps) b t (omega arith) e′
 
 -- a state that feeds left is one that is left
 pub many-left : (a : Answer) (ps : List (List ℕ)) → Left (a .fed .state) → Bytes (flatten ps) → Left (feedMany a ps .fed .state)
@@ -156,19 +156,19 @@ closed list size room ps b h =
 front : (bytes b : List ℕ) → length bytes ≤ length b → sets b 0 bytes ≡ onto bytes b
 front bytes b h = sets-eq bytes b 0 (omega arith) ∙ rw zero-add
 
-told-at-once : (list : List ℕ) (size : ℕ) (xs b : List ℕ) → size < 2 ^ 64 → 16368 ≤ length b → Bytes xs → length xs ≤ size
+told-at-once : (list : List ℕ) (size : ℕ) (xs b : List ℕ) → 16 ≤ size → 16368 ≤ length b → Bytes xs → length xs ≤ size
     → Told list size xs b (feedOf (fresh size 0 (tableOf list)) xs b)
-told-at-once list size xs b h l k w =
+told-at-once list size xs b f l k w =
     let s : State = fresh size 0 (tableOf list) in
+    let e = fresh-in size (tableOf list) f in
     let r : Run = runIn s b in
-    let g : Good r = fresh-sound size 0 (tableOf list) h (table-long list) b l in
     let m = steps-move r xs in
     let p : Walked = prefixOf (kindIn list) size xs in
     let same : prefixOf (kindsIn (tableOf list)) size xs ≡ p = prefix-same (kindsIn (tableOf list)) (kindIn list) (table-at list) size xs in
     let v : Agrees r p (steps r xs) = subst (λ (u : Walked). Agrees r u (steps r xs)) same (all-agree r xs refl refl refl refl refl refl k w) in
     let fits : length (flatten (p .records)) ≤ 16368 = prefix-room (kindIn list) size xs w in
     subst (Told list size xs b)
-    (sym (taken-is s xs b (record { bounds = in-of r g; room = l; within = omega arith })))
+    (sym (taken-is s xs b (record { bounds = e; room = l; within = omega arith })))
     record {
       number = refl;
       announced = m .1;
@@ -186,7 +186,8 @@ pub pieces : (list : List ℕ) (size : ℕ) (ps : List (List ℕ)) (b : List ℕ
     → length (flatten ps) ≤ size → Told list size (flatten ps) b (feedMany (answer 0 (openOf list size (length b)) b) ps)
 pieces list size ps b h o k w =
     let l : 16368 ≤ length b = open-passed list size (length b) o .0 in
+    let f : 16 ≤ size = open-passed list size (length b) o .1 in
     let s : State = fresh size 0 (tableOf list) in
     subst (Told list size (flatten ps) b)
-    (sym (ap (λ (x : State). feedMany (answer 0 x b) ps) (open-is list size (length b) o) ∙ many s ps b (fresh-sound size 0 (tableOf list) h (table-long list)) l k (omega arith)))
-    (told-at-once list size (flatten ps) b h l k w)
+    (sym (ap (λ (x : State). feedMany (answer 0 x b) ps) (open-is list size (length b) o) ∙ many s ps b (fresh-in size (tableOf list) f) l (omega arith)))
+    (told-at-once list size (flatten ps) b f l k w)

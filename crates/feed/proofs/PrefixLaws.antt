@@ -24,7 +24,7 @@ use Rattle.drom.specs.Walk.{Walked, entryOf, frontOf, end, andThen, walkOf, sto
 use Rattle.drom.specs.Report.{walkIn}
 use Rattle.drom.proofs.WalkLaws.{walk-end, walk-on, front-zero, front-past, front-whole}
 use Rattle.feed.specs.Prefix.{soFarBy, prefixOf}
-use Rattle.feed.proofs.StepLaws.{header-number-length}
+use Rattle.feed.proofs.BoundsLaws.{header-length}
 use Rattle.feed.proofs.KindLaws.{Same, entry-same}
 use Rattle.feed.proofs.PrefixEntries.{so-six, so-seven, so-part, so-entry}
 use Rattle.feed.proofs.PrefixHeader.{start-least}
@@ -129,7 +129,7 @@ module _ (kinds : ℕ → ℕ) where
       prefix-cases size kinds bs (λ (w : Walked). length (flatten (w .records)) ≤ 16368) (omega arith) (λ n z. omega arith)
       (λ n z.
       let least : 16 ≤ bodyStart bs = start-least bs in
-      let m : lengthIn bs + 13 ≡ size = header-number-length size bs z in
+      let m : lengthIn bs + 13 ≡ size = header-length size bs z in
       let r = so-room (length bs) (bodyStart bs) (size - bodyStart bs) (drop (bodyStart bs) bs) in
       let d = length-drop (bodyStart bs) bs in
       omega (arith, r, d, m, least, h))

@@ -20,7 +20,8 @@ use Rattle.drom.specs.Numbers.{wrongLength, shortTbt3, zeroLength, pastEnd, fir
 use Rattle.drom.specs.Header.{lengthIn, isTbt3, bodyStart, headerNumber}
 use Rattle.feed.specs.declared.feeding.Core.{Core}
 use Rattle.feed.specs.Run.{Run, run, withCore, withPending, counted, refused, filled, recorded, judged, pendingEntry, pendingAt, endedBy, ended, kept, begun, headed, stepOf, steps}
-use Rattle.feed.specs.Bounds.{Live, Good}
+use Rattle.feed.specs.Loop.{Live, Good}
+use Rattle.feed.proofs.BoundsLaws.{header-length}
 
 -- a byte is counted
 abbrev pub next : Run → Run
@@ -104,13 +105,6 @@ pub judged-is : (c : Core) (h : List ℕ) → judged c h ≡ refused c (headerNu
 unfolding judged
 judged-is c h = refl
 
-pub header-number-length : (size : ℕ) (h : List ℕ) → headerNumber size h ≡ 0 → lengthIn h + 13 ≡ size
-header-number-length size h v = go (eqb (lengthIn h + 13) size) refl v
-  where
-    go : (t : Bool) → eqb (lengthIn h + 13) size ≡ t → firstOf ((not t, wrongLength) ∷ (isTbt3 h && ltb size 22, shortTbt3) ∷ []) ≡ 0 → lengthIn h + 13 ≡ size
-    go true e q = eqb-true _ _ e
-    go false e q = absurd (omega arith)
-
 module _ (r : Run) (at b : ℕ) where
   pub headed-more : (at ≡ 15 → ⊥) → headed r at b ≡ run (r .core) (set (r .header) at b) (r .pending) (r .kinds) (r .buffer)
   unfolding headed
@@ -163,6 +157,17 @@ module _ (r : Run) (b : ℕ) where
     pub step-first : r .core .fill ≡ 0 → (b ≡ 0 → ⊥) → b ≤ r .core .announced - r .core .taken → stepOf r b ≡ kept (next r) b
     step-first f z p = step-begun f ∙ begun-kept (next r) (r .core .taken) b z p
 
+-- where a byte is an entry's first, and where it is kept: the header is in and passed by, and a first byte's entry does not run past the end
+pub record AtFirst (r : Run) : Type 0 where
+  pub late : 16 ≤ r .core .taken
+  pub behind : bodyStart (r .header) ≤ r .core .taken
+  pub empty : r .core .fill ≡ 0
+
+pub record InEntry (r : Run) (b : ℕ) : Type 0 where
+  pub late : 16 ≤ r .core .taken
+  pub behind : bodyStart (r .header) ≤ r .core .taken
+  pub fresh : r .core .fill ≡ 0 → b ≤ r .core .announced - r .core .taken
+
 -- a claim of what a byte leaves follows from the claim in each case
 module _ (P : Run → Type 0) where
   pub step-cases : (r : Run) (b : ℕ)
@@ -171,9 +176,9 @@ module _ (P : Run → Type 0) where
       → (r .core .refusal ≡ 0 → r .core .taken ≡ 15
       → P (run (judged (counted (r .core)) (set (r .header) (r .core .taken) b)) (set (r .header) (r .core .taken) b) (r .pending) (r .kinds) (r .buffer)))
       → (r .core .refusal ≡ 0 → 16 ≤ r .core .taken → r .core .taken < bodyStart (r .header) → P (next r))
-      → (r .core .refusal ≡ 0 → 16 ≤ r .core .taken → P (withCore r (refused (counted (r .core)) zeroLength (r .core .taken))))
-      → (r .core .refusal ≡ 0 → 16 ≤ r .core .taken → P (withCore r (refused (counted (r .core)) pastEnd (r .core .taken))))
-      → (r .core .refusal ≡ 0 → 16 ≤ r .core .taken → P (kept (next r) b))
+      → (r .core .refusal ≡ 0 → AtFirst r → P (withCore r (refused (counted (r .core)) zeroLength (r .core .taken))))
+      → (r .core .refusal ≡ 0 → AtFirst r → P (withCore r (refused (counted (r .core)) pastEnd (r .core .taken))))
+      → (r .core .refusal ≡ 0 → InEntry r b → P (kept (next r) b))
       → P (stepOf r b)
   step-cases r b off header judge skip six seven put = go₀ (eqb (r .core .refusal) 0) refl
     where
@@ -181,16 +186,16 @@ module _ (P : Run → Type 0) where
       n = r .core .taken
 
       at-first : (h : r .core .refusal ≡ 0) → (k : 16 ≤ n) (s : bodyStart (r .header) ≤ n) → r .core .fill ≡ 0 → (b ≡ 0 → ⊥) → (t : Bool) → ltb (r .core .announced - n) b ≡ t → P (stepOf r b)
-      at-first h k s f z true e = rw (step-past r b h k s f z (ltb-true _ _ e)) (seven h k)
-      at-first h k s f z false e = rw (step-first r b h k s f z (ltb-false _ _ e)) (put h k)
+      at-first h k s f z true e = rw (step-past r b h k s f z (ltb-true _ _ e)) (seven h (record { late = k; behind = s; empty = f }))
+      at-first h k s f z false e = rw (step-first r b h k s f z (ltb-false _ _ e)) (put h (record { late = k; behind = s; fresh = λ _. ltb-false _ _ e }))
 
       at-zero : (h : r .core .refusal ≡ 0) → (k : 16 ≤ n) (s : bodyStart (r .header) ≤ n) → r .core .fill ≡ 0 → (t : Bool) → eqb b 0 ≡ t → P (stepOf r b)
-      at-zero h k s f true e = rw (step-zero r b h k s f (eqb-true _ _ e)) (six h k)
+      at-zero h k s f true e = rw (step-zero r b h k s f (eqb-true _ _ e)) (six h (record { late = k; behind = s; empty = f }))
       at-zero h k s f false e = at-first h k s f (eqb-false _ _ e) (ltb (r .core .announced - n) b) refl
 
       at-entry : (h : r .core .refusal ≡ 0) → (k : 16 ≤ n) (s : bodyStart (r .header) ≤ n) (t : Bool) → eqb (r .core .fill) 0 ≡ t → P (stepOf r b)
       at-entry h k s true e = at-zero h k s (eqb-true _ _ e) (eqb b 0) refl
-      at-entry h k s false e = rw (step-kept r b h k s (eqb-false _ _ e)) (put h k)
+      at-entry h k s false e = rw (step-kept r b h k s (eqb-false _ _ e)) (put h (record { late = k; behind = s; fresh = λ z. absurd (eqb-false _ _ e z) }))
 
       at-body : (h : r .core .refusal ≡ 0) → (k : 16 ≤ n) (t : Bool) → ltb n (bodyStart (r .header)) ≡ t → P (stepOf r b)
       at-body h k true e = rw (step-skip r b h k (ltb-true _ _ e)) (skip h k (ltb-true _ _ e))
@@ -263,13 +268,13 @@ module _ (r : Run) (b : ℕ) (g : Good r) (h : r .core .taken < r .core .announc
       (λ y n. let v = g .live y in
       rw (judged-is (counted (r .core)) x)
       (after-live (refused (counted (r .core)) (headerNumber (r .core .announced) x) 0) x refl refl e
-      (λ z. let s = header-number-length (r .core .announced) x z in
+      (λ z. let s = header-length (r .core .announced) x z in
       record { small = λ n′. omega arith; filling = omega arith; fewer = omega arith; kept = omega arith; room = omega arith })))
       (λ y n w. let v = g .live y in let m = v .small n in
       after-live (counted (r .core)) (r .header) refl refl (g .head) (λ z. record { small = λ n′. m; filling = omega arith; fewer = omega arith; kept = omega arith; room = omega arith }))
       (λ y n. after-live (refused (counted (r .core)) zeroLength (r .core .taken)) (r .header) refl refl (g .head) (λ z. absurd (omega arith)))
       (λ y n. after-live (refused (counted (r .core)) pastEnd (r .core .taken)) (r .header) refl refl (g .head) (λ z. absurd (omega arith)))
-      (λ y n. kept-after y n)
+      (λ y n. kept-after y (n .late))
 
 -- ---- pieces
 

@@ -1,8 +1,8 @@
 -- Document 01, "Feeding": what an opening, a feed and a finish answer, and the states and buffers that they leave.
 -- Assumes nothing.
-use mathlib.Core.Bool.{Bool, cond, not, _&&_, _||_}
+use mathlib.Core.Bool.{Bool, cond, not, _&&_}
 use mathlib.Core.List.{List, [], _∷_}
-use Prim.Native.Nat.{ℕ, _-_, _*_}
+use Prim.Native.Nat.{ℕ, _-_}
 use lib.Dec.{ltb, leb, eqb}
 use lib.ListN.{length, replicate, drop}
 use Rattle.util.specs.Crc.{over, byteOf32, start32, final32}
@@ -16,6 +16,7 @@ use Rattle.feed.specs.declared.feeding.State.{State}
 use Rattle.feed.specs.declared.feeding.Fed.{Fed}
 use Rattle.feed.specs.Kinds.{tableOf}
 use Rattle.feed.specs.Run.{Run, run, steps}
+use Rattle.feed.specs.Bounds.{inBounds}
 
 -- "Numbers given back", those of feeding
 -- feed beyond the announced size
@@ -46,19 +47,6 @@ openedBy refusal list size = cond (eqb refusal 0) (fresh size 0 (tableOf list)) 
 
 unfoldable pub openOf : List ℕ → ℕ → ℕ → State
 openOf list size room = openedBy (firstOf (openTests list size room)) list size
-
--- The bounds of a state, of which docs/ has the list: no more bytes are taken than announced; and, unless something is refused: the
--- pending entry has at most 254 bytes, there are no more records than bytes, before the header is in nothing is pending or written, and
--- then the size is one that passes, what is pending came behind the header, and what is written is at most four bytes for each byte of
--- the entries before.
-unfoldable pub inBounds : Core → Bool
-inBounds c =
-    leb (c .taken) (c .announced)
-    && (not (eqb (c .refusal) 0)
-    || (leb (c .fill) 254
-    && leb (c .count) (c .taken)
-    && cond (ltb (c .taken) 16) (eqb (c .fill) 0 && eqb (c .written) 0)
-    (leb (c .announced) 4108 && leb (c .fill) (c .taken - 16) && leb (c .written) (4 * (c .taken - 16 - c .fill)))))
 
 -- the register of CRC32 goes on over the bytes from 13 on, where `taken` bytes are in before these
 abbrev pub registerAfter : ℕ → ℕ → List ℕ → ℕ
@@ -97,7 +85,7 @@ both f buffer = record { fed = f; buffer = buffer }
 -- "A feed answers 0, 18, 4 or 12, tested as 18, 4, 12; each refusal leaves everything as it was."
 abbrev pub feedTests : State → List ℕ → ℕ → List (Bool × ℕ)
 feedTests s piece room =
-    (not (inBounds (s .core)), outside) ∷ (ltb room (roomFor (s .core .announced)), smallBuffer) ∷ (ltb (s .core .announced - s .core .taken) (length piece), beyond) ∷ []
+    (not (inBounds (s .core) (s .header) (s .pending)), outside) ∷ (ltb room (roomFor (s .core .announced)), smallBuffer) ∷ (ltb (s .core .announced - s .core .taken) (length piece), beyond) ∷ []
 
 abbrev pub feedBy : ℕ → State → List ℕ → List ℕ → Answer
 feedBy refusal s piece buffer =
@@ -115,7 +103,7 @@ told c h = reportWith (valuesIn h) (eqb (final32 (c .register)) (crc32In h)) (c 
 -- "Finish gives 18 first, then 13 if bytes are missing, else the report"
 unfoldable pub finishOf : State → Report
 finishOf s =
-    cond (inBounds (s .core))
+    cond (inBounds (s .core) (s .header) (s .pending))
     (cond (ltb (s .core .taken) (s .core .announced)) (refusedReport missing)
     (cond (leb 1 (s .core .refusal) && leb (s .core .refusal) 5) (refusedReport (s .core .refusal)) (told (s .core) (s .header))))
     (refusedReport outside)

@@ -1,7 +1,9 @@
--- Document 01, "Feeding": a byte's step (Run), the calls (Feed), and what demand 3 says of them (Prefix, Pieces). Bounds serves private contracts.
+-- Document 01, "Feeding": a byte's step (Run), the bounds of a state (Bounds), the calls (Feed), and what demand 3 says of them (Prefix,
+-- Pieces). Loop serves private contracts.
 pub mod Kinds
 pub mod Run
 pub mod Bounds
+pub mod Loop
 pub mod Feed
 pub mod Prefix
 pub mod Pieces

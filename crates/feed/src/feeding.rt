@@ -7,8 +7,10 @@ ghost use Rattle.bits.specs.Front.{Put};
 ghost use Rattle.entry.specs.Decode.{numberOf};
 ghost use Rattle.feed.specs.Kinds.{tableOf};
 ghost use Rattle.feed.specs.Run.{run, judged, ended, kept, stepOf, steps};
-ghost use Rattle.feed.specs.Bounds.{Good, AnyHeader, Through, passed};
-ghost use Rattle.feed.specs.Feed.{fresh, openOf, inBounds, registerAfter, stateOf, stateAfter, both, answer, feedOf, told, finishOf};
+ghost use Rattle.feed.specs.Bounds.{inBounds};
+ghost use Rattle.feed.specs.Loop.{Good, AnyHeader, Through, passed};
+ghost use Rattle.feed.specs.Feed.{fresh, openOf, registerAfter, stateOf, stateAfter, both, answer, feedOf, told, finishOf};
+use super::bounds::in_bounds;
 use drom::Report;
 use drom::header::body_start;
 use drom::header::header_number;
@@ -162,38 +164,6 @@ fn step(
 
 // ---- a piece
 
-// Whether a state is one that feeding can leave, as far as no byte can do harm.
-fn in_bounds(c: Core) -> bool
-    ensures { λ r. ⌜ r ≡ inBounds c ⌝ }
-{
-    if c.announced < c.taken {
-        return false;
-    }
-    if c.refusal != 0 {
-        return true;
-    }
-    if 254 < c.fill {
-        return false;
-    }
-    if c.taken < c.count {
-        return false;
-    }
-    if c.taken < 16 {
-        if c.fill != 0 {
-            return false;
-        }
-        return c.written == 0;
-    }
-    if 4108 < c.announced {
-        return false;
-    }
-    let body = c.taken - 16;
-    if body < c.fill {
-        return false;
-    }
-    c.written <= 4 * (body - c.fill)
-}
-
 // CRC32's register after a piece: it covers the bytes from 13 on.
 fn register_after(register: u32, taken: usize, piece: &[u8]) -> u32
     ensures { λ r. ⌜ r ≡ registerAfter register taken (now (piece .entry)) ⌝ }
@@ -314,7 +284,7 @@ fn take_in(
     kinds: &[u8],
     records: &mut [u8],
 ) -> Core
-    requires { ⌜ (inBounds first ≡ true) × (length (now header) ≡ 16) × (length (now pending) ≡ 255) × (length (now kinds) ≡ 64) × (16368 ≤ length (now records)) × (length (now piece) ≤ first .announced - first .taken) ⌝ }
+    requires { ⌜ (inBounds first (now header) (now pending) ≡ true) × (length (now header) ≡ 16) × (length (now pending) ≡ 255) × (length (now kinds) ≡ 64) × (16368 ≤ length (now records)) × (length (now piece) ≤ first .announced - first .taken) ⌝ }
     ensures state { λ r. ⌜ stateOf r (now (header .exit)) (now (pending .exit)) (now (kinds .entry)) ≡ stateAfter (steps (run first (now (header .entry)) (now (pending .entry)) (now (kinds .entry)) (now (records .entry))) (now (piece .entry))) (registerAfter (first .register) (first .taken) (now (piece .entry))) ⌝ }
     ensures buffer { λ r. ⌜ now (records .exit) ≡ steps (run first (now (header .entry)) (now (pending .entry)) (now (kinds .entry)) (now (records .entry))) (now (piece .entry)) .buffer ⌝ }
 {
@@ -374,7 +344,7 @@ pub fn feed_in_place(
 ) -> FedCore
     ensures { λ r. ⌜ answer (r .number) (stateOf (r .core) (now (header .exit)) (now (pending .exit)) (now (kinds .entry))) (now (records .exit)) ≡ feedOf (stateOf core (now (header .entry)) (now (pending .entry)) (now (kinds .entry))) (now (piece .entry)) (now (records .entry)) ⌝ }
 {
-    if !in_bounds(core) {
+    if !in_bounds(core, header, pending) {
         return FedCore { number: 18, core };
     }
     if records.len() < 16368 {
@@ -528,13 +498,14 @@ pub fn finish(state: State) -> Report
     ensures { λ r. ⌜ r ≡ finishOf state ⌝ }
 {
     let core = state.core;
-    if !in_bounds(core) {
+    let header = state.header;
+    let pending = state.pending;
+    if !in_bounds(core, &header, &pending) {
         return drom::refused_report(18);
     }
     if core.taken < core.announced {
         return drom::refused_report(13);
     }
-    let header = state.header;
     if core.refusal == 0 {
         return report(core, &header);
     }

@@ -1,4 +1,5 @@
 // A DROM that comes in pieces: open, feed, finish.
+mod bounds;
 pub mod feeding;
 
 pub use feeding::Core;

@@ -16,7 +16,7 @@ use Rattle.record.specs.Record.{recordOf}
 use Rattle.record.specs.Write.{recordBytes, answerOf, writeAnswer, writeLeaves}
 use Rattle.record.specs.declared.write.Written.the-variants as written
 use Rattle.record.proofs.Known.{decode-row}
-use Rattle.record.proofs.Lengths.{record-room}
+use Rattle.record.proofs.Lengths.{record-length, record-room}
 
 module _ (bs : List ℕ) (kind offset : ℕ) where
   pub room-answer : (room : ℕ) → 4 * length bs ≤ room → writeAnswer bs kind offset room ≡ answerOf offset bs (decodeOf kind bs)
@@ -30,6 +30,10 @@ module _ (bs : List ℕ) (kind offset : ℕ) where
   -- "No entry's record exceeds 4 times L bytes"
   pub written-room : (e : DromEntry) → decodeOf kind bs ≡ Is e → length (recordOf offset bs e) ≤ 4 * length bs
   written-room e d = record-room bs offset e (decode-row kind bs e d)
+
+  -- a record has its head at least
+  pub written-least : (e : DromEntry) → decodeOf kind bs ≡ Is e → 4 ≤ length (recordOf offset bs e)
+  written-least e d = omega (arith, record-length bs offset e (decode-row kind bs e d))
 
 -- ---- what an answer tells of the entry
 

@@ -6,7 +6,7 @@ use native.Mathlib.Omega.{arith}
 use denote.Ref.{now}
 use lib.ListN.{length, take, drop}
 use Rattle.feed.specs.Run.{run}
-use Rattle.feed.specs.Bounds.{passed}
+use Rattle.feed.specs.Loop.{passed}
 use Rattle.feed.proofs.AlongLaws.{Along, Whole, along-through, through-none, along-start, unwritten, never, turned}
 use borrow.Author.Needs.{needs}
 use Rattle.feed.proofs.feeding.take_entries.Statement.{statement}

@@ -13,11 +13,13 @@ use lib.ListN.{length, getD, set}
 use lib.Seq.{getD-set-other}
 use Rattle.drom.specs.Header.{bodyStart}
 use Rattle.feed.specs.Run.{Run, run, stepOf, steps}
-use Rattle.feed.specs.Bounds.{Good}
+use Rattle.feed.specs.Loop.{Good}
 use Rattle.feed.specs.Feed.{stateAfter}
+use Rattle.feed.proofs.BoundsLaws.{start-small}
+use Rattle.feed.proofs.WithinLaws.{good-of}
 use Rattle.feed.proofs.StepLaws.{next, step-kept, kept-more}
 use Rattle.feed.proofs.EndLaws.{rest-all, rest-long}
-use Rattle.feed.proofs.FeedLaws.{start-small, good-of, Held, held-start, turn-to, held-end}
+use Rattle.feed.proofs.FeedLaws.{Held, held-start, turn-to, held-end}
 use Rattle.feed.proofs.AlongLaws.{through-still, held-through, held-passes}
 use Rattle.feed.proofs.feeding.take_in.Statement.{statement}
 use Rattle.feed.proofs.feeding.take_in.Tie as tie

@@ -35,7 +35,7 @@ times-add f zero n x = let e : zero + n ≡ n = omega arith in ap (λ (k : ℕ).
 times-add f (suc m) n x = let e : suc m + n ≡ suc (m + n) = omega arith in ap (λ (k : ℕ). times k f x) e ∙ times-add f m n (f x)
 
 -- the step with its bit as a factor
-bit-is : (c : ℕ) → bitOf32 c ≡ bitXor (c / 2) (c % 2 * 0x82F63B78)
+pub bit-is : (c : ℕ) → bitOf32 c ≡ bitXor (c / 2) (c % 2 * 0x82F63B78)
 unfolding bitOf32
 bit-is c = go (c % 2) (omega arith)
   where
@@ -54,7 +54,7 @@ poly (suc zero) (suc (suc y)) h k = absurd (omega arith)
 poly (suc (suc x)) y h k = absurd (omega arith)
 
 -- a step of an exclusive-or is the exclusive-or of the steps
-bit-xor : (a b : ℕ) → bitOf32 (bitXor a b) ≡ bitXor (bitOf32 a) (bitOf32 b)
+pub bit-xor : (a b : ℕ) → bitOf32 (bitXor a b) ≡ bitXor (bitOf32 a) (bitOf32 b)
 bit-xor a b =
     bit-is (bitXor a b)
     ∙ ap₂ bitXor (xor-half a b)
@@ -73,7 +73,7 @@ halved n h =
     ∙ xor-zero-r (h * 2 ^ n)
 
 -- n steps take away n zero bits
-times-shifted : (n h : ℕ) → times n bitOf32 (h * 2 ^ n) ≡ h
+pub times-shifted : (n h : ℕ) → times n bitOf32 (h * 2 ^ n) ≡ h
 times-shifted zero h = omega arith
 times-shifted (suc n) h = ap (times n bitOf32) (halved n h) ∙ times-shifted n h
 

@@ -50,15 +50,18 @@ Row3 first last low high a b c = Row2 first last low high a b × In 0x80 0xBF c
 abbrev pub Row4 : ℕ → ℕ → ℕ → ℕ → ℕ → ℕ → ℕ → ℕ → Type 0
 Row4 first last low high a b c d = Row3 first last low high a b c × In 0x80 0xBF d
 
-range-means : (first last n : ℕ) → range first last n ≡ true ↔ In first last n
+pub range-means : (first last n : ℕ) → range first last n ≡ true ↔ In first last n
 range-means first last n = and-means (leb-true first n, le-leb first n) (leb-true n last, le-leb n last)
 
-past : (first last n : ℕ) → last < n → range first last n ≡ false
+pub past : (first last n : ℕ) → last < n → range first last n ≡ false
 past first last n h = go (leb first n)
   where
     go : (t : Bool) → (t && leb n last) ≡ false
     go true = lt-leb n last h
     go false = refl
+
+pub below : (first last n : ℕ) → n < first → range first last n ≡ false
+below first last n h = rw (lt-leb first n h)
 
 -- ---- scalar values
 
@@ -68,6 +71,10 @@ Scalar n = In 0 0xD7FF n ⊎ In 0xE000 0x10FFFF n
 pub scalar-means : (n : ℕ) → isScalar n ≡ true ↔ Scalar n
 unfolding isScalar
 scalar-means n = or-means (range-means 0 0xD7FF n) (range-means 0xE000 0x10FFFF n)
+
+pub scalar-top : (n : ℕ) → Scalar n → n < 0x110000
+scalar-top n (inl s) = omega arith
+scalar-top n (inr s) = omega arith
 
 -- ---- characters of two, three and four bytes
 

@@ -1,8 +1,8 @@
--- A turn of the loop over the units: the text so far, and what is left.
+-- What the first units decode to and show, and a turn of the loop over the units: the text so far, and what is left.
 -- Assumes nothing.
 use mathlib.Core.Path.{_≡_, refl, sym, ap, ap₂, subst, _∙_}
 use mathlib.Core.Bool.{Bool, true, false, _&&_}
-use mathlib.Core.List.{List, [], _∷_, _++_, append-assoc}
+use mathlib.Core.List.{List, [], _∷_, _++_, append-assoc, append-nil}
 use Prim.Native.Nat.{ℕ, zero, suc, _+_, _-_, _*_, _/_, _<_, _≤_}
 use native.Mathlib.Nat.{not-suc-le-zero}
 use native.Mathlib.Numerals.{add-one}
@@ -14,15 +14,12 @@ use Rattle.bits.specs.Front.{onto}
 use Rattle.util.specs.Range.{range}
 use Rattle.util.specs.Utf16.{units, scalar, isPair, alone, decode, kept, keptOf, textOf}
 use Rattle.util.specs.Shown.{shown, Shows}
+use Rattle.util.proofs.Rows.{clash}
 use Rattle.util.proofs.Units.{units-cons, units-none}
 
 nothing : textOf [] ≡ []
 unfolding textOf decode keptOf
 nothing = refl
-
-append-nil : (xs : List ℕ) → xs ++ [] ≡ xs
-append-nil [] = refl
-append-nil (x ∷ xs) = ap (λ (t : List ℕ). x ∷ t) (append-nil xs)
 
 pub shown-one : (n : ℕ) → 0 < n → shown n ≡ n ∷ []
 shown-one zero h = absurd (not-suc-le-zero h)
@@ -32,22 +29,36 @@ wide : (n : ℕ) → 0x7F ≤ n → kept (scalar n) ≡ []
 unfolding kept
 wide n h = rw (le-leb 0x21 n (omega arith), lt-leb n 0x7E (omega arith))
 
+-- ---- a pair, or a unit by itself
+
+pub decode-pair : (u v : ℕ) (us : List ℕ) → isPair u v ≡ true → decode (u ∷ v ∷ us) ≡ scalar (0x10000 + (u - 0xD800) * 0x400 + (v - 0xDC00)) ∷ decode us
+unfolding decode
+decode-pair u v us h = rw h
+
+pub decode-alone : (u : ℕ) (us : List ℕ) → isPair u (getD us 0 0) ≡ false → decode (u ∷ us) ≡ alone u ∷ decode us
+unfolding decode
+decode-alone u [] h = refl
+decode-alone u (v ∷ us) h = rw h
+
 pair : (u v : ℕ) (us : List ℕ) → isPair u v ≡ true → textOf (u ∷ v ∷ us) ≡ textOf us
-unfolding textOf decode keptOf
-pair u v us h = rw h (rw (wide (0x10000 + (u - 0xD800) * 0x400 + (v - 0xDC00)) (omega arith)))
+unfolding textOf keptOf
+pair u v us h = rw (decode-pair u v us h) (rw (wide (0x10000 + (u - 0xD800) * 0x400 + (v - 0xDC00)) (omega arith)))
 
 single : (u : ℕ) (us : List ℕ) → isPair u (getD us 0 0) ≡ false → textOf (u ∷ us) ≡ kept (alone u) ++ textOf us
-unfolding textOf decode keptOf
-single u [] h = refl
-single u (v ∷ us) h = rw h
+unfolding textOf keptOf
+single u us h = rw (decode-alone u us h)
+
+-- the last unit is by itself
+pub last-alone : (u : ℕ) → isPair u 0 ≡ false
+unfolding isPair
+last-alone u = go (range 0xD800 0xDBFF u)
+  where
+    go : (t : Bool) → (t && false) ≡ false
+    go true = refl
+    go false = refl
 
 pos : (u v : ℕ) → isPair u v ≡ true → 0 < v
-unfolding isPair
-pos u zero h = absurd (never (range 0xD800 0xDBFF u) h)
-  where
-    never : (b : Bool) → (b && false) ≡ true → ⊥
-    never true e = let z : _≡_ {A = ℕ} 0 1 = cc in omega arith
-    never false e = let z : _≡_ {A = ℕ} 0 1 = cc in omega arith
+pos u zero h = absurd (clash (sym (last-alone u) ∙ h))
 pos u (suc v) h = omega arith
 
 -- ---- a step

@@ -12,7 +12,7 @@ use lib.ListN.{length}
 use Rattle.util.specs.Utf8.{encode, allScalar, encodeAll, Utf8, utf8-1, utf8-2, utf8-3, utf8-4, isUtf8}
 use Rattle.util.proofs.Chars.{ascii, not-ascii, ok1, ok2, ok3, ok4, bad1, bad2, bad3, bad4}
 use Rattle.util.proofs.Rows.{clash, split, In, Scalar, Row2, Row3, Row4, Rows3, Rows4}
-use Rattle.util.proofs.Rows.{test-means, and-means, scalar-means, two-means, three-means, four-means, no-two, no-three}
+use Rattle.util.proofs.Rows.{test-means, and-means, scalar-means, scalar-top, two-means, three-means, four-means, no-two, no-three}
 
 -- ---- the four lengths of an encoding
 
@@ -82,17 +82,13 @@ module _ (n : ℕ) (bs : List ℕ) where
   passes : Scalar n → isUtf8 (encode n ++ bs) ≡ isUtf8 bs
   passes s = go (split n 0x80) (split n 0x800) (split n 0x10000)
     where
-      top : Scalar n → n < 0x110000
-      top (inl q) = omega arith
-      top (inr q) = omega arith
-
       go : (n < 0x80) ⊎ (0x80 ≤ n) → (n < 0x800) ⊎ (0x800 ≤ n) → (n < 0x10000) ⊎ (0x10000 ≤ n) → isUtf8 (encode n ++ bs) ≡ isUtf8 bs
       go (inl p) q r = passes1 p
       go (inr p) (inl q) r = passes2 p q
       go (inr p) (inr q) (inl r) = passes3 q r s
-      go (inr p) (inr q) (inr r) = passes4 r (top s)
+      go (inr p) (inr q) (inr r) = passes4 r (scalar-top n s)
 
-all-means : (n : ℕ) (ns : List ℕ) → allScalar (n ∷ ns) ≡ true ↔ Scalar n × (allScalar ns ≡ true)
+pub all-means : (n : ℕ) (ns : List ℕ) → allScalar (n ∷ ns) ≡ true ↔ Scalar n × (allScalar ns ≡ true)
 unfolding allScalar
 all-means n ns = and-means (scalar-means n) (test-means (allScalar ns))
 

@@ -1,5 +1,5 @@
 -- The two checksums of a DROM, bit by bit: CRC8 as document 01 describes it, and CRC-32C of RFC 3720.
--- Both are a register that takes in one byte after the other.
+-- Both are a register that takes in one byte after the other. That CRC-32C is then the RFC's remainder is said in specs/Rfc3720.antt.
 -- Assumes nothing.
 use mathlib.Core.Bool.{cond}
 use mathlib.Core.List.{List, [], _∷_}

@@ -1,5 +1,5 @@
 -- Document 01's text rule for UTF-16, over the Unicode Standard's decoding (D91): code units become scalar values,
--- or unpaired surrogates, first; what is kept of them comes second.
+-- or unpaired surrogates, first; what is kept of them comes second. What D91 encodes is in specs/Utf16Form.antt.
 -- Assumes nothing.
 use mathlib.Core.Bool.{Bool, cond, _&&_}
 use mathlib.Core.List.{List, [], _∷_, _++_}

@@ -1,3 +1,5 @@
+-- `bits::byte_at` meets its contract: past the end, where nothing is read, the definition has 0 too.
+-- Assumes nothing.
 use mathlib.Core.Path.{sym}
 use denote.Ref.{now}
 use lib.ListN.{List·getD-eq-default}

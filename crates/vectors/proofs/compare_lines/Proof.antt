@@ -1,3 +1,5 @@
+-- `compare_lines` is safe and ends. The loop's invariant: `start` is at most one past the text, and neither count is above it, so that none
+-- wraps. The measure is what is left of the text. Assumes nothing.
 use Prim.Native.Nat.{_+_, _≤_, _-_}
 use lib.ListN.{length}
 use borrow.Author.Needs.{needs}

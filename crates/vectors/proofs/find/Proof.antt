@@ -1,3 +1,5 @@
+-- `find` meets its contract. The loop's invariant: `i` is between `from` and the text's length. The measure is what is left of the text.
+-- Assumes nothing.
 use Prim.Native.Nat.{_≤_, _-_}
 use lib.ListN.{length}
 use borrow.Author.Needs.{needs}

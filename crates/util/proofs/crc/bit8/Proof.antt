@@ -1,3 +1,5 @@
+-- `bit8` meets its contract: each branch is the doubling, with the exclusive-or where the top bit was set.
+-- Assumes nothing.
 use borrow.Author.Tests.{eq-eqb, ne-eqb}
 use mathlib.Core.Path.{ap}
 use Prim.Native.Nat.{ℕ}

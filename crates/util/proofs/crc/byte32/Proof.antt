@@ -1,3 +1,5 @@
+-- `byte32` meets its contract: the byte, with the register's low one in it, is one look into the table, and the rest of the register moves down (`by-table`).
+-- Assumes nothing.
 use Rattle.util.specs.Tables.{Stepped}
 use mathlib.Core.Path.{ap, sym, _∙_}
 use Prim.Native.Nat.{_/_, _%_}

@@ -1,3 +1,5 @@
+-- `byte8` meets its contract: its eight calls are the eight steps of `byteOf8`, one within the other.
+-- Assumes nothing.
 use Rattle.util.specs.Crc.{byteOf8}
 use borrow.Author.Needs.{needs}
 use Rattle.util.proofs.crc.byte8.Statement.{statement}

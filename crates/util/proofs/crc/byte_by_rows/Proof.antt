@@ -1,3 +1,5 @@
+-- `byte_by_rows` meets its contract: the byte, with the register's low one in it, goes by the rows, and the rest of the register moves down (`first-byte`).
+-- Assumes nothing.
 use mathlib.Core.Path.{refl, sym, ap, _∙_}
 use mathlib.Core.List.{[]}
 use Prim.Native.Nat.{_/_}

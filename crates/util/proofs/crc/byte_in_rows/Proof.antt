@@ -1,3 +1,5 @@
+-- `byte_in_rows` meets its contract: the low and the high four bits of a byte go by themselves, each by its row (`by-rows`).
+-- Assumes nothing.
 use Rattle.util.proofs.CrcLaws.{by-rows}
 use denote.Ref.{now}
 use borrow.Author.Needs.{needs}

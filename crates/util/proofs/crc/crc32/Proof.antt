@@ -1,3 +1,5 @@
+-- `crc32` meets its contract: start, bytes and end are those of `crcOf32`.
+-- Assumes nothing.
 use Rattle.util.specs.Crc.{crcOf32}
 use borrow.Author.Needs.{needs}
 use Rattle.util.proofs.crc.crc32.Statement.{statement}

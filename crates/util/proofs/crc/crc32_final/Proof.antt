@@ -1,3 +1,5 @@
+-- `crc32_final` meets its contract: it is the definition.
+-- Assumes nothing.
 use mathlib.Core.Path.{refl}
 use Rattle.util.specs.Crc.{final32}
 use Rattle.util.proofs.crc.crc32_final.Statement.{statement}

@@ -1,3 +1,5 @@
+-- `crc32_more` meets its contract: the two tables follow their rules, each by one computed test of all its entries (`stepped`, `rowed`).
+-- Assumes nothing.
 use mathlib.Core.Path.{refl}
 use Rattle.util.specs.Crc.{bitOf32}
 use Rattle.util.proofs.CrcLaws.{stepped, rowed}

@@ -1,3 +1,5 @@
+-- `eight_bytes` meets its contract: each byte goes by itself, with what of the register meets it, and the eight are put together (`eight`).
+-- Assumes nothing.
 use mathlib.Core.Path.{_≡_, ap, _∙_}
 use Prim.Native.Nat.{ℕ, _+_, _<_}
 use native.Mathlib.Omega.{arith}

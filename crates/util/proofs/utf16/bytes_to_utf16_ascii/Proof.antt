@@ -1,3 +1,5 @@
+-- `bytes_to_utf16_ascii` meets its contract: an odd count, too little room, or the text, in this order, for the answer and the buffer.
+-- Assumes nothing.
 use mathlib.Core.Path.{ap}
 use borrow.Author.Tests.{eq-eqb, ne-eqb, lt-ltb, le-ltb}
 use Rattle.util.specs.declared.utf16.Utf16Ascii.the-variants.{Written}

@@ -1,3 +1,5 @@
+-- `is_pair` meets its contract: each return follows from the comparisons passed so far.
+-- Assumes nothing.
 use borrow.Author.Tests.{lt-leb, le-leb}
 use Rattle.util.specs.Utf16.{isPair}
 use Rattle.util.proofs.utf16.is_pair.Statement.{statement}

@@ -1,3 +1,5 @@
+-- `kept_alone` meets its contract: the ranges below 21, to 7E, below D800, to DFFF and above, each as the definition has it.
+-- Assumes nothing.
 use mathlib.Core.Path.{_∙_}
 use native.Mathlib.Omega.{arith}
 use borrow.Author.Tests.{lt-leb, le-leb}

@@ -1,3 +1,5 @@
+-- `next_shown` meets its contract: a pair shows nothing (`shows-pair`), any other unit what is kept of it alone (`shows-alone`).
+-- Assumes nothing.
 use mathlib.Core.Path.{sym, _∙_}
 use denote.Ref.{now}
 use Rattle.util.proofs.Text.{shows-pair, shows-alone}

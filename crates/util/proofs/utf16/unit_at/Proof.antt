@@ -1,3 +1,5 @@
+-- `unit_at` meets its contract: two bytes are the first unit of what is left (`units-at`), and fewer are none (`units-none`).
+-- Assumes nothing.
 use mathlib.Core.Path.{ap, sym}
 use mathlib.Core.List.{List}
 use Prim.Native.Nat.{ℕ, _+_, _<_, _≤_}

@@ -1,3 +1,5 @@
+-- `utf16_ascii_count` meets its contract. The loop's invariant is `Counting`: the count so far, and what is shown from `i` on, are the whole text's
+-- length. The measure is how many bytes are left. Assumes nothing.
 use Prim.Native.Nat.{_-_}
 use native.Mathlib.Omega.{arith}
 use lib.ListN.{length}

@@ -1,3 +1,5 @@
+-- `write_text` meets its contract. The loop's invariant is `Writing`: what is written, and what is shown from `i` on, are the whole text, and the
+-- rest of the buffer is as lent. The measure is how many bytes are left. Assumes nothing.
 use Prim.Native.Nat.{_-_}
 use native.Mathlib.Omega.{arith}
 use lib.ListN.{length}

@@ -1,3 +1,5 @@
+-- `is_untouched` is safe and ends. The loop needs no invariant: its test keeps `i` inside. The measure is what is left of the 256 bytes.
+-- Assumes nothing.
 use Prim.Native.Nat.{_-_}
 use borrow.Author.Needs.{needs}
 use Rattle.vectors.proofs.answers.is_untouched.Statement.{statement}

@@ -1,3 +1,5 @@
+-- `pieces` is safe and ends. The loop's invariant: `i` is inside, and the next piece's size is at least 1, so that the loop ends, and at most `i` + 1,
+-- so that no sum wraps. The measure is how many bytes are left. Assumes nothing.
 use Prim.Native.Nat.{_+_, _≤_, _<_, _-_}
 use lib.ListN.{length}
 use borrow.Author.Needs.{needs}

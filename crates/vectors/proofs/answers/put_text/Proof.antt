@@ -1,3 +1,5 @@
+-- `put_text` meets its contract. The loop's invariant: `out` keeps its 256 bytes. The measure is how many bytes of the text are left.
+-- Assumes nothing.
 use Prim.Native.Nat.{_-_}
 use lib.ListN.{length}
 use mathlib.Core.Path.{_≡_}

@@ -1,3 +1,5 @@
+-- `print_bytes` is safe and ends. The loop's invariant: `i` is inside. The measure is how many bytes are left.
+-- Assumes nothing.
 use Prim.Native.Nat.{_≤_, _-_}
 use lib.ListN.{length}
 use borrow.Author.Needs.{needs}

@@ -1,3 +1,5 @@
+-- `unhex` meets its contract. The loop's invariant: at most `half` bytes are read, and `out` keeps its 256. The measure is how many are left.
+-- Assumes nothing.
 use Prim.Native.Nat.{_≤_, _-_}
 use lib.ListN.{length}
 use mathlib.Core.Path.{_≡_}

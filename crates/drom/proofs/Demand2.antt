@@ -1,17 +1,16 @@
 -- Demand 2's cutting law. A walk is accepted exactly if the body can be cut into entries of their stated lengths, each fit for its kind
--- (`accepted-cut`, `cut-accepted`); the cut is then unique (`cut-unique`), and the records are those of its pieces in order (`cut-records`).
--- A refused walk stops at the end of the longest beginning that can be cut, for the reason that stands there (`stops-longest`).
--- So the report's number is 0 exactly if the body can be cut, where no test before the entries holds (`report-cut`).
+-- (`accepted-cut`, `cut-accepted`); the cut is then unique (`cut-unique`), and the records are those of its pieces in order (`cut-accepted`).
+-- A refused walk stops at the end of the longest beginning that can be cut, for the reason that stands there (`stops`, `stops-longest`), and its
+-- number is 6 to 11 (`walk-number`). So the report's number is 0 exactly if the body can be cut, where no test before the entries holds
+-- (`report-cut`).
 -- Assumes nothing.
 use mathlib.Core.Path.{_≡_, refl, sym, ap, subst, _∙_}
-use mathlib.Core.Bool.{Bool, true, false, cond}
 use mathlib.Core.List.{List, [], _∷_, _++_, append-assoc, append-nil, flatten}
 use mathlib.Core.Logic.{_⊎_, inl, inr, ⊎-elim, _↔_}
 use Prim.Native.Nat.{ℕ, zero, suc, _+_, _<_, _≤_}
 use native.Mathlib.Nat.{le-refl, not-suc-le-zero}
 use native.Mathlib.Omega.{arith}
 use borrow.Author.Tests.{ne-eqb, le-ltb}
-use lib.Dec.{ltb, eqb}
 use lib.ListN.{length, take, drop, length-drop, length-append, take-append-drop}
 use lib.Seq.{take-append-seam, drop-append-seam, length-take-le}
 use Rattle.entry.specs.declared.parse.DromEntry.{DromEntry}
@@ -19,7 +18,7 @@ use Rattle.entry.specs.declared.parse.Decoded.{Decoded}
 use Rattle.entry.specs.declared.parse.Decoded.the-variants.{Is, Refused}
 use Rattle.entry.specs.Adapters.{kindIn}
 use Rattle.entry.specs.Decode.{numberOf}
-use Rattle.entry.proofs.FitLaws.{fit-decodes, decoded-fit, refused-number}
+use Rattle.entry.proofs.FitLaws.{fit-decodes, decoded-fit}
 use Rattle.drom.specs.declared.reader.Report.{Report}
 use Rattle.drom.specs.Header.{bodyStart}
 use Rattle.drom.specs.Walk.{Walked, entryOf, frontOf, end, stop, andThen, walkOf}
@@ -27,7 +26,7 @@ use Rattle.drom.specs.Cut.{Entry, Cut, none, next, recordsAt}
 use Rattle.drom.specs.Report.{refusalOf, walkIn, reportOf}
 use Rattle.drom.proofs.Joined.{flatten-append}
 use Rattle.drom.proofs.ReportLaws.{report-walked}
-use Rattle.drom.proofs.WalkLaws.{front-inside, walk-end, walk-on}
+use Rattle.drom.proofs.WalkLaws.{front-inside, front-number, walk-end, walk-on}
 
 module _ (kinds : ℕ → ℕ) where
   -- ---- an entry at the front
@@ -98,6 +97,9 @@ module _ (kinds : ℕ → ℕ) where
     pub first : bs ≡ L ∷ tail
     pub reason : frontOf kinds L bs ≡ Refused n
 
+  blocked-number : {bs : List ℕ} {n : ℕ} → Blocked bs n → (6 ≤ n) × (n ≤ 11)
+  blocked-number {bs} {n} b = front-number kinds (b .L) bs n (b .reason)
+
   -- what a walk has passed can be cut; behind it is nothing, or what no entry stands at the front of
   pub record Stops (at : ℕ) (bs : List ℕ) (w : Walked) : Type 0 where
     pub rest : List ℕ
@@ -158,21 +160,11 @@ module _ (kinds : ℕ → ℕ) where
   pub stops : (at : ℕ) (bs : List ℕ) → Stops at bs (walkOf kinds at bs)
   stops at bs = stops-by (length bs) at bs (le-refl _)
 
-  -- the reasons' numbers are 6 to 11
-  blocked-number : (bs : List ℕ) (n : ℕ) → Blocked bs n → (6 ≤ n) × (n ≤ 11)
-  unfolding frontOf
-  blocked-number bs n b = go (eqb (b .L) 0) (ltb (length bs) (b .L)) (b .reason)
-    where
-      go : (p q : Bool) → cond p (Refused 6) (cond q (Refused 7) (entryOf kinds (take (b .L) bs))) ≡ Refused n → (6 ≤ n) × (n ≤ 11)
-      go true q e = let y : n ≡ 6 = cc in omega arith
-      go false true e = let y : n ≡ 7 = cc in omega arith
-      go false false e = let y = refused-number (kinds (numberOf (take (b .L) bs))) (take (b .L) bs) n e in omega arith
-
   -- ---- the theorems
 
   -- a walk's number is 0, or 6 to 11
   pub walk-number : (at : ℕ) (body : List ℕ) → (walkOf kinds at body .number ≡ 0) ⊎ ((6 ≤ walkOf kinds at body .number) × (walkOf kinds at body .number ≤ 11))
-  walk-number at body = ⊎-elim (λ accepted. inl (accepted .0)) (λ refused. inr (blocked-number _ _ (refused .1))) (stops at body .why)
+  walk-number at body = ⊎-elim (λ accepted. inl (accepted .0)) (λ refused. inr (blocked-number (refused .1))) (stops at body .why)
 
   -- an accepted body can be cut, into what the walk passed
   pub accepted-cut : (at : ℕ) (body : List ℕ) → walkOf kinds at body .number ≡ 0 → Cut kinds body (walkOf kinds at body .entries)
@@ -185,7 +177,7 @@ module _ (kinds : ℕ → ℕ) where
       go s (inl k) =
           let all : flatten (walkOf kinds at body .entries) ≡ body = sym (s .split ∙ ap (λ (t : List ℕ). flatten (walkOf kinds at body .entries) ++ t) (k .2) ∙ append-nil _) in
           subst (λ (t : List ℕ). Cut kinds t (walkOf kinds at body .entries)) all (s .cut)
-      go s (inr k) = absurd (omega (arith, blocked-number (s .rest) (walkOf kinds at body .number) (k .1)))
+      go s (inr k) = absurd (omega (arith, blocked-number (k .1)))
 
   -- a body that can be cut is accepted; the walk passes the entries of the cut, and the records are theirs in order
   pub cut-accepted : (at : ℕ) (body : List ℕ) (entries : List (List ℕ)) → Cut kinds body entries

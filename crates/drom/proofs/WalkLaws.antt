@@ -1,4 +1,5 @@
--- The equations of a walk, without its turns: over nothing, and over bytes with an entry or a refusal at their front.
+-- The equations of a walk, without its turns: over nothing, and over bytes with an entry or a refusal at their front. What is refused there has
+-- a number from 6 to 11 (`front-number`).
 -- Assumes nothing.
 use mathlib.Core.Path.{_≡_, refl, sym, ap, _∙_}
 use mathlib.Core.Bool.{Bool, true, false, cond}
@@ -14,6 +15,8 @@ use lib.Seq.{drop-cons, drop-drop}
 use Rattle.entry.specs.declared.parse.DromEntry.{DromEntry}
 use Rattle.entry.specs.declared.parse.Decoded.{Decoded}
 use Rattle.entry.specs.declared.parse.Decoded.the-variants.{Is, Refused}
+use Rattle.entry.specs.Decode.{numberOf}
+use Rattle.entry.proofs.FitLaws.{refused-number}
 use Rattle.drom.specs.Walk.{Walked, entryOf, frontOf, pieceAt, frontAt, isEntry, end, andThen, walkBy, walkOf}
 
 -- what an entry at the front says of its length
@@ -26,6 +29,20 @@ front-inside kinds L bs e h = go (eqb L 0) (ltb (length bs) L) refl refl h
     go true q ep eq h = let z : _≡_ {A = ℕ} 0 1 = cc in absurd (omega arith)
     go false true ep eq h = let z : _≡_ {A = ℕ} 0 1 = cc in absurd (omega arith)
     go false false ep eq h = (omega (arith, eqb-false L 0 ep), ltb-false (length bs) L eq, h)
+
+-- and the numbers of what is refused there: 6 to 11
+pub front-number : (kinds : ℕ → ℕ) (L : ℕ) (bs : List ℕ) (n : ℕ) → frontOf kinds L bs ≡ Refused n → (6 ≤ n) × (n ≤ 11)
+unfolding frontOf
+front-number kinds L bs n = go (eqb L 0) (ltb (length bs) L)
+  where
+    go : (p q : Bool) → cond p (Refused 6) (cond q (Refused 7) (entryOf kinds (take L bs))) ≡ Refused n → (6 ≤ n) × (n ≤ 11)
+    go true q h = let y : n ≡ 6 = cc in omega arith
+    go false true h = let y : n ≡ 7 = cc in omega arith
+    go false false h = let y = refused-number (kinds (numberOf (take L bs))) (take L bs) n h in omega arith
+
+-- so what is refused there is no entry
+pub no-entry : (kinds : ℕ → ℕ) (L : ℕ) (bs : List ℕ) (n : ℕ) → frontOf kinds L bs ≡ Refused n → isEntry (frontOf kinds L bs) ≡ false
+no-entry kinds L bs n h = ap isEntry h ∙ ne-eqb n 0 (λ z. omega (arith, front-number kinds L bs n h))
 
 -- as many turns as there are bytes, or more, make no difference
 module _ (kinds : ℕ → ℕ) where
@@ -120,7 +137,8 @@ module _ (kinds : ℕ → ℕ) where
             ends = end-is;
             entries = ap (λ (w : Walked). w .entries) (walk-at drom at h) ∙ rw f (rw (← end-is));
           })
-      steps (Refused n) f = inl (e ∙ rw f, ap (λ (w : Walked). w .entries) (walk-at drom at h) ∙ rw f)
+      steps (Refused n) f =
+          inl (e ∙ rw (no-entry kinds (getD drom at 0) (drop at drom) n f), ap (λ (w : Walked). w .entries) (walk-at drom at h) ∙ rw f)
 
       step : ((r ≡ 0) × (walkOf kinds at (drop at drom) .entries ≡ [])) ⊎ Passes
       step = steps (frontAt kinds drom at) refl
@@ -140,7 +158,7 @@ module _ (kinds : ℕ → ℕ) where
     where
       at-byte : at < length drom → (d : Decoded) → frontAt kinds drom at ≡ d → Stepped drom at
       at-byte h (Is x) f = inr (step-on drom at (at + getD drom at 0) h (rw f) (λ z. absurd (omega (arith, front-inside kinds (getD drom at 0) (drop at drom) x f .0))))
-      at-byte h (Refused n) f = inl (step-none drom at 0 h (rw f) refl)
+      at-byte h (Refused n) f = inl (step-none drom at 0 h (rw (no-entry kinds (getD drom at 0) (drop at drom) n f)) refl)
 
       go : (b : Bool) → ltb at (length drom) ≡ b → Stepped drom at
       go true e = at-byte (ltb-true at (length drom) e) (frontAt kinds drom at) refl

@@ -1,14 +1,14 @@
 -- The walk over a body, "entry by entry 6, 7, 8, 9, 10, 11", and the records of the entries before a refused one.
 -- `kinds` gives the listed kind of an adapter's number.
 -- Assumes nothing.
-use mathlib.Core.Bool.{Bool, true, false, cond}
+use mathlib.Core.Bool.{Bool, cond}
 use mathlib.Core.List.{List, [], _∷_}
 use Prim.Native.Nat.{ℕ, zero, suc, _+_}
 use lib.Dec.{ltb, eqb}
 use lib.ListN.{length, getD, take, drop}
 use Rattle.entry.specs.declared.parse.Decoded.{Decoded}
 use Rattle.entry.specs.declared.parse.Decoded.the-variants.{Is, Refused}
-use Rattle.entry.specs.Decode.{numberOf, decodeOf}
+use Rattle.entry.specs.Decode.{numberOf, decodeOf, decodedNumber}
 use Rattle.record.specs.Record.{recordOf}
 use Rattle.drom.specs.Numbers.{accepted, zeroLength, pastEnd}
 
@@ -37,8 +37,7 @@ frontAt kinds drom at = frontOf kinds (getD drom at 0) (drop at drom)
 
 -- an entry stands there
 abbrev pub isEntry : Decoded → Bool
-isEntry (Is e) = true
-isEntry (Refused n) = false
+isEntry d = eqb (decodedNumber d) accepted
 
 -- where the bytes end, and where something is refused
 abbrev pub end : Walked
@@ -47,11 +46,11 @@ end = record { entries = []; records = []; number = accepted; offset = 0 }
 abbrev pub stop : ℕ → ℕ → Walked
 stop n at = record { entries = []; records = []; number = n; offset = at }
 
--- an entry at an offset, and the walk after it
+-- an entry at an offset, and the walk after it; or the number of what is refused there
 abbrev pub andThen : ℕ → List ℕ → Decoded → Walked → Walked
 andThen at bs (Is e) rest =
     record { entries = bs ∷ rest .entries; records = recordOf at bs e ∷ rest .records; number = rest .number; offset = rest .offset }
-andThen at bs (Refused n) rest = stop n at
+andThen at bs (Refused n) rest = stop (decodedNumber (Refused n)) at
 
 -- The walk from an offset on over the bytes that stand there. An entry takes a byte at least, so as many turns as there are bytes
 -- are enough: proofs/WalkLaws.antt has the equations without turns (walk-end, walk-on).

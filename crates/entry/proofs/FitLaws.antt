@@ -1,4 +1,5 @@
--- The theorem that decoding is refused exactly where the entry is not fit for its kind (`fit-decodes`, `unfit-refused`), and with which numbers.
+-- The theorem that decoding is refused exactly where the entry is not fit for its kind (`fit-decodes`, `unfit-refused`), and with which
+-- numbers (`decoded-number`, `number-fit`).
 -- Assumes nothing.
 use mathlib.Core.Path.{_≡_, refl, sym, ap, _∙_}
 use mathlib.Core.Bool.{Bool, true, false, cond}
@@ -13,9 +14,10 @@ use Rattle.util.proofs.Rows.{split}
 use Rattle.util.proofs.Utf8Means.{utf8-means}
 use Rattle.entry.specs.Names.{hasZero, beforeZero}
 use Rattle.entry.specs.Rows.{Text, noText, name, utf16From, textIn, rowOf}
-use Rattle.entry.specs.Decode.{valuesOf, nameOf, tooShort, noZero, notUtf8, nameRefusal, utf16Refusal, textRefusal, rowEntry, decodeOf}
+use Rattle.entry.specs.Decode.{valuesOf, nameOf, tooShort, noZero, notUtf8, nameRefusal, utf16Refusal, textRefusal, rowEntry, decodeOf, decodedNumber}
 use Rattle.entry.specs.Fit.{Name, TextFits, Fit}
 use Rattle.entry.specs.declared.parse.DromEntry.{DromEntry}
+use Rattle.entry.specs.declared.parse.Decoded.{Decoded}
 use Rattle.entry.specs.declared.parse.Decoded.the-variants.{Is, Refused}
 use Rattle.entry.proofs.NameLaws.{before-free, zero-splits, joined-zero, joined-before}
 use Rattle.entry.proofs.DecodeLaws.{row-text, Comes, short, unwell, well, comes, decoded-values, is-refused, same-refusal}
@@ -126,3 +128,19 @@ module _ (kind : ℕ) (bs : List ℕ) where
   pub refused-number : (n : ℕ) → decodeOf kind bs ≡ Refused n → (8 ≤ n) × (n ≤ 11)
   unfolding decodeOf
   refused-number n d = number n d (comes (rowOf kind bs) bs)
+
+  -- the number of decoding: 0, or 8 to 11
+  pub decoded-number : (decodedNumber (decodeOf kind bs) ≡ 0) ⊎ ((8 ≤ decodedNumber (decodeOf kind bs)) × (decodedNumber (decodeOf kind bs) ≤ 11))
+  decoded-number = go (decodeOf kind bs) refl
+    where
+      go : (d : Decoded) → decodeOf kind bs ≡ d → (decodedNumber d ≡ 0) ⊎ ((8 ≤ decodedNumber d) × (decodedNumber d ≤ 11))
+      go (Is e) h = inl refl
+      go (Refused n) h = inr (refused-number n h)
+
+  -- and 0 exactly where the entry is fit for its kind
+  pub number-fit : decodedNumber (decodeOf kind bs) ≡ 0 ↔ Fit kind bs
+  number-fit = (go (decodeOf kind bs) refl, λ f. ap decodedNumber (fit-values f))
+    where
+      go : (d : Decoded) → decodeOf kind bs ≡ d → decodedNumber d ≡ 0 → Fit kind bs
+      go (Is e) h z = decoded-fit e h
+      go (Refused n) h z = absurd (omega (arith, refused-number n h))

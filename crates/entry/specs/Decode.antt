@@ -103,3 +103,9 @@ rowEntry row bs = cond (ltb (length bs) (least row bs)) (Refused tooShort) (unle
 -- an entry, by the kind that is listed for its number
 unfoldable pub decodeOf : ℕ → List ℕ → Decoded
 decodeOf kind bs = rowEntry (rowOf kind bs) bs
+
+-- "Where an answer is an enum, a definition gives this paper's number and values for each case of the enum": 0 for an entry, whose values are
+-- its own, and the refusal's number
+abbrev pub decodedNumber : Decoded → ℕ
+decodedNumber (Is e) = 0
+decodedNumber (Refused n) = n

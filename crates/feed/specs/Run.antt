@@ -8,7 +8,7 @@ use lib.ListN.{length, getD, set, take}
 use lib.Seq.{sets}
 use Rattle.entry.specs.declared.parse.Decoded.{Decoded}
 use Rattle.entry.specs.declared.parse.Decoded.the-variants.{Is, Refused}
-use Rattle.entry.specs.Decode.{numberOf, decodeOf}
+use Rattle.entry.specs.Decode.{numberOf, decodeOf, decodedNumber}
 use Rattle.record.specs.Record.{recordOf}
 use Rattle.drom.specs.Numbers.{zeroLength, pastEnd}
 use Rattle.drom.specs.Header.{bodyStart, headerNumber}
@@ -101,7 +101,7 @@ abbrev pub endedBy : Run → Decoded → Run
 endedBy r (Is e) =
     run (recorded (r .core) (length (recordOf (pendingAt (r .core)) (pendingEntry r) e))) (r .header) (r .pending) (r .kinds)
     (sets (r .buffer) (r .core .written) (recordOf (pendingAt (r .core)) (pendingEntry r) e))
-endedBy r (Refused n) = withCore r (refused (r .core) n (pendingAt (r .core)))
+endedBy r (Refused n) = withCore r (refused (r .core) (decodedNumber (Refused n)) (pendingAt (r .core)))
 
 unfoldable pub ended : Run → Run
 ended r = endedBy r (decodeOf (getD (r .kinds) (numberOf (pendingEntry r)) 0) (pendingEntry r))

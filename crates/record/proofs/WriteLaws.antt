@@ -1,19 +1,20 @@
--- What `write_entry` promises to a caller that has room: "no room" never comes, and what was written is the record.
+-- What `write_entry` promises to a caller that has room: "no room" never comes, and what was written is the record. And what its answer's
+-- number and size are (`small-number`, `room-number`, `small-size`, `room-size`).
 -- Assumes nothing.
 use mathlib.Core.Path.{_≡_, refl, ap}
 use mathlib.Core.List.{List}
-use Prim.Native.Nat.{ℕ, _*_, _/_, _≤_}
+use Prim.Native.Nat.{ℕ, _*_, _/_, _<_, _≤_}
 use native.Mathlib.Omega.{arith}
-use borrow.Author.Tests.{le-ltb}
+use borrow.Author.Tests.{lt-ltb, le-ltb}
 use lib.ListN.{length}
 use Rattle.bits.specs.Front.{onto}
 use Rattle.entry.specs.declared.parse.DromEntry.{DromEntry}
 use Rattle.entry.specs.declared.parse.Decoded.{Decoded}
 use Rattle.entry.specs.declared.parse.Decoded.the-variants.{Is, Refused}
 use Rattle.entry.specs.Adapters.{kindIn}
-use Rattle.entry.specs.Decode.{numberOf, decodeOf}
+use Rattle.entry.specs.Decode.{numberOf, decodeOf, decodedNumber}
 use Rattle.record.specs.Record.{recordOf}
-use Rattle.record.specs.Write.{recordBytes, answerOf, writeAnswer, writeLeaves}
+use Rattle.record.specs.Write.{recordBytes, answerOf, writeAnswer, writeLeaves, writtenNumber, writtenSize}
 use Rattle.record.specs.declared.write.Written.the-variants as written
 use Rattle.record.proofs.Known.{decode-row}
 use Rattle.record.proofs.Lengths.{record-length, record-room}
@@ -34,6 +35,33 @@ module _ (bs : List ℕ) (kind offset : ℕ) where
   -- a record has its head at least
   pub written-least : (e : DromEntry) → decodeOf kind bs ≡ Is e → 4 ≤ length (recordOf offset bs e)
   written-least e d = omega (arith, record-length bs offset e (decode-row kind bs e d))
+
+-- ---- what an answer tells: its number, and its size
+
+module _ (bs : List ℕ) (kind offset room : ℕ) where
+  -- 4 below four times L, with no bytes
+  pub small-number : room < 4 * length bs → writtenNumber (writeAnswer bs kind offset room) ≡ 4
+  unfolding writeAnswer
+  small-number h = rw (lt-ltb (room / 4) (length bs) (omega arith))
+
+  pub small-size : room < 4 * length bs → writtenSize (writeAnswer bs kind offset room) ≡ 0
+  unfolding writeAnswer
+  small-size h = rw (lt-ltb (room / 4) (length bs) (omega arith))
+
+  -- and else the number of decoding, and how many bytes are laid at the buffer's front
+  pub room-number : 4 * length bs ≤ room → writtenNumber (writeAnswer bs kind offset room) ≡ decodedNumber (decodeOf kind bs)
+  room-number h = rw (room-answer bs kind offset room h) (go (decodeOf kind bs))
+    where
+      go : (d : Decoded) → writtenNumber (answerOf offset bs d) ≡ decodedNumber d
+      go (Is e) = refl
+      go (Refused n) = refl
+
+  pub room-size : 4 * length bs ≤ room → writtenSize (writeAnswer bs kind offset room) ≡ length (recordBytes offset bs (decodeOf kind bs))
+  room-size h = rw (room-answer bs kind offset room h) (go (decodeOf kind bs))
+    where
+      go : (d : Decoded) → writtenSize (answerOf offset bs d) ≡ length (recordBytes offset bs d)
+      go (Is e) = refl
+      go (Refused n) = refl
 
 -- ---- what an answer tells of the entry
 

@@ -9,3 +9,4 @@ pub mod Chars
 pub mod Rows
 pub mod Utf8Means
 pub mod Utf16Means
+pub mod Utf16Numbers

@@ -67,3 +67,16 @@ unfoldable pub utf16Leaves : List ℕ → List ℕ → List ℕ
 utf16Leaves bytes buffer =
     cond (eqb (length bytes % 2) 1) buffer
     (cond (ltb (length buffer) (length bytes / 2)) buffer (onto (utf16Text bytes) buffer))
+
+-- "Where an answer is an enum, a definition gives this paper's number and values for each case of the enum": 0 and the text's length; 11,
+-- "UTF-16 part of odd length"; or 4, the number of a buffer that is too small. Proofs of crate drom (NumberLaws `enum-numbers`) hold these to the
+-- names that stand above this crate.
+abbrev pub utf16AsciiNumber : Utf16Ascii → ℕ
+utf16AsciiNumber (Written n) = 0
+utf16AsciiNumber OddLength = 11
+utf16AsciiNumber NoRoom = 4
+
+abbrev pub utf16AsciiLength : Utf16Ascii → ℕ
+utf16AsciiLength (Written n) = n
+utf16AsciiLength OddLength = 0
+utf16AsciiLength NoRoom = 0

@@ -1,3 +1,5 @@
+-- `drom::parts::entry_end` meets its contract: no entry of length 0 or past the end stands there, and else what the bytes decode to decides.
+-- Assumes nothing.
 use mathlib.Core.Path.{_≡_, sym, ap, _∙_}
 use Prim.Native.Nat.{ℕ, _+_, _-_, _≤_, _<_}
 use native.Mathlib.Omega.{arith}
@@ -5,7 +7,7 @@ use denote.Ref.{now}
 use lib.ListN.{length, getD, take, drop, length-drop}
 use Rattle.drom.specs.Walk.{entryOf, frontAt}
 use Rattle.entry.specs.Adapters.{kindIn}
-use Rattle.drom.proofs.WalkLaws.{front-zero, front-past, front-whole}
+use Rattle.drom.proofs.WalkLaws.{no-entry, front-zero, front-past, front-whole}
 use borrow.Author.Needs.{needs}
 use Rattle.drom.proofs.parts.entry_end.Statement.{statement}
 use Rattle.drom.proofs.parts.entry_end.Tie as tie
@@ -76,7 +78,8 @@ returns-3 : tie.Need-returns-3
 returns-3 c = rw (there (c .before .before), c .enum-told .given .1)
 
 returns-4 : tie.Need-returns-4
-returns-4 c = rw (there (c .before .before), c .enum-told2 .given .1)
+returns-4 c =
+    let refused = there (c .before .before) ∙ c .enum-told2 .given .1 in rw (no-entry _ _ _ _ refused)
 
 pub entry-end-spec : {M : Type 1} → statement M
 entry-end-spec =

@@ -1,3 +1,5 @@
+-- The laws behind the promises of this crate: of the walk, the header, the parts and the report; then the theorems of demands 1 and 2, which
+-- numbers a report can have, and document 01's examples. Assumes nothing.
 pub mod Joined
 pub mod WalkLaws
 pub mod HeaderLaws
@@ -6,4 +8,5 @@ pub mod ReportLaws
 pub mod WalkTurns
 pub mod Demand1
 pub mod Demand2
+pub mod NumberLaws
 pub mod Examples

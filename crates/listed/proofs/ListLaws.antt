@@ -1,6 +1,7 @@
 -- The bytes of adapters, and of a table of kinds. Both are even in count (`pairs-even`, `from-even`), and the table's bytes give its
 -- kinds (`from-at`). A reading depends on an even list by its kinds below 64 only (`report-same`, `leaves-same`), so the table of a
--- list, as bytes, reads as the list does (`table-reads`). `pairs-on` and `pairs-end` are for the loop of `pairs_of`.
+-- list, as bytes, reads as the list does (`table-reads`); and 5 is told of no slice of adapters (`never-five`). `pairs-on` and `pairs-end`
+-- are for the loop of `pairs_of`.
 -- Assumes nothing.
 use mathlib.Core.Path.{_≡_, refl, sym, ap, _∙_}
 use mathlib.Core.List.{List, [], _∷_, _++_, append-assoc, append-nil}
@@ -16,6 +17,7 @@ use Rattle.drom.specs.declared.reader.Report.{Report}
 use Rattle.drom.specs.Numbers.{firstOf, oddList, smallBuffer, tooFew}
 use Rattle.drom.specs.Header.{headerTests, roomFor, bodyStart}
 use Rattle.drom.specs.Report.{refusalOf, walkIn, reportOf, recordsOf, leavesOf}
+use Rattle.drom.proofs.NumberLaws.{number-five}
 use Rattle.feed.specs.Kinds.{tableOf}
 use Rattle.feed.proofs.KindLaws.{table-long, table-at, walk-same, Same}
 use Rattle.bits.specs.Front.{onto}
@@ -39,6 +41,10 @@ pairs-even list = omega (arith, pairs-long list)
 
 pub from-even : (n : ℕ) (kinds : List ℕ) → length (pairsFrom n kinds) % 2 ≡ 0
 from-even n kinds = omega (arith, from-long n kinds)
+
+-- "a lent slice of adapter records ..; 5 isn't given there": for every slice, DROM and room
+pub never-five : (list : List Adapter) (drom : List ℕ) (room : ℕ) → reportOf (pairsOf list) drom room .number ≡ 5 → ⊥
+never-five list drom room five = omega (arith, pairs-even list, number-five (pairsOf list) drom room .0 five)
 
 -- ---- the kinds of a table's bytes
 

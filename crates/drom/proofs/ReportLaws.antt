@@ -1,7 +1,7 @@
 -- A reading, by whether it is refused before the entries.
 -- Assumes nothing.
-use mathlib.Core.Path.{_≡_}
-use mathlib.Core.List.{List, flatten}
+use mathlib.Core.Path.{_≡_, ap}
+use mathlib.Core.List.{List, [], flatten}
 use Prim.Native.Nat.{ℕ}
 use borrow.Author.Tests.{eq-eqb, ne-eqb}
 use lib.ListN.{length}
@@ -18,11 +18,17 @@ module _ (list drom : List ℕ) (room : ℕ) where
   unfolding reportOf
   report-refused h = rw (ne-eqb (refusalOf list drom room) 0 h)
 
+  pub records-walked : refusalOf list drom room ≡ 0 → recordsOf list drom room ≡ flatten (walkIn (kindIn list) drom .records)
+  unfolding recordsOf
+  records-walked h = rw (eq-eqb (refusalOf list drom room) 0 h)
+
+  pub records-refused : (refusalOf list drom room ≡ 0 → ⊥) → recordsOf list drom room ≡ []
+  unfolding recordsOf
+  records-refused h = rw (ne-eqb (refusalOf list drom room) 0 h)
+
 module _ (list drom buffer : List ℕ) where
   pub leaves-walked : refusalOf list drom (length buffer) ≡ 0 → leavesOf list drom buffer ≡ onto (flatten (walkIn (kindIn list) drom .records)) buffer
-  unfolding recordsOf
-  leaves-walked h = rw (eq-eqb (refusalOf list drom (length buffer)) 0 h)
+  leaves-walked h = ap (λ (records : List ℕ). onto records buffer) (records-walked list drom (length buffer) h)
 
   pub leaves-refused : (refusalOf list drom (length buffer) ≡ 0 → ⊥) → leavesOf list drom buffer ≡ buffer
-  unfolding recordsOf
-  leaves-refused h = rw (ne-eqb (refusalOf list drom (length buffer)) 0 h)
+  leaves-refused h = ap (λ (records : List ℕ). onto records buffer) (records-refused list drom (length buffer) h)

@@ -1,3 +1,5 @@
+-- The laws behind the promises of this crate: of the bounds, a step, the loop over a piece, an opening, the kinds, the register and a prefix;
+-- then cutting, what is never told, what each piece leaves, what a finish says, and demand 3. Assumes nothing.
 pub mod BoundsLaws
 pub mod StepLaws
 pub mod MoveLaws

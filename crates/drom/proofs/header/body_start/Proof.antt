@@ -1,3 +1,5 @@
+-- `drom::header::body_start` meets its contract: 22 or 16, by the version's test.
+-- Assumes nothing.
 use borrow.Author.Needs.{needs}
 use Rattle.drom.proofs.header.body_start.Statement.{statement}
 use Rattle.drom.proofs.header.body_start.Tie as tie

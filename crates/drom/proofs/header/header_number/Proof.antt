@@ -1,3 +1,5 @@
+-- `drom::header::header_number` meets its contract: 2, then 3, each by its test in `headerTests`, and else 0.
+-- Assumes nothing.
 use borrow.Author.Tests.{lt-ltb, le-ltb, eq-eqb, ne-eqb}
 use borrow.Author.Needs.{needs}
 use Rattle.drom.proofs.header.header_number.Statement.{statement}

@@ -1,3 +1,5 @@
+-- `drom::header::header_values` meets its contract: nothing below 16 bytes, and else each value as its own function tells it.
+-- Assumes nothing.
 use borrow.Author.Tests.{lt-ltb, le-ltb}
 use borrow.Author.Needs.{needs}
 use Rattle.drom.proofs.header.header_values.Statement.{statement}

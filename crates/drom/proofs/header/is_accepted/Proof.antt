@@ -1,3 +1,5 @@
+-- `drom::header::is_accepted` meets its contract: 16 bytes at least, and then the header's number is 0.
+-- Assumes nothing.
 use borrow.Author.Tests.{lt-ltb, le-ltb}
 use mathlib.Core.Path.{ap}
 use Prim.Native.Nat.{ℕ}

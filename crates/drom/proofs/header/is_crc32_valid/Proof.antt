@@ -1,3 +1,5 @@
+-- `drom::header::is_crc32_valid` meets its contract: CRC32 of the part from byte 13 to the end, against the stored one.
+-- Assumes nothing.
 use mathlib.Core.Path.{ap, ap₂, _∙_}
 use Prim.Native.Nat.{ℕ}
 use lib.Dec.{eqb}

@@ -1,3 +1,5 @@
+-- `drom::header::is_crc8_valid` meets its contract: for TBT3 CRC8 of bytes 1 to 8 against byte 0, and else no.
+-- Assumes nothing.
 use mathlib.Core.Path.{ap}
 use Prim.Native.Nat.{ℕ}
 use lib.Dec.{eqb}

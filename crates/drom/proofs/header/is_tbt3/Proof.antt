@@ -1,3 +1,5 @@
+-- `drom::header::is_tbt3` meets its contract: the version, byte 13, is below 3.
+-- Assumes nothing.
 use mathlib.Core.Path.{ap}
 use Prim.Native.Nat.{ℕ}
 use lib.Dec.{ltb}

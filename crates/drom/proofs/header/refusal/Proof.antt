@@ -1,3 +1,5 @@
+-- `drom::header::refusal` meets its contract: 5, 4 and 1 in their order, and else the header's own number.
+-- Assumes nothing.
 use borrow.Author.Tests.{lt-ltb, le-ltb, eq-eqb, ne-eqb}
 use borrow.Author.Needs.{needs}
 use Rattle.drom.proofs.header.refusal.Statement.{statement}

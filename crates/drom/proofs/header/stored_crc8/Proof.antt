@@ -1,3 +1,5 @@
+-- `drom::header::stored_crc8` meets its contract: byte 0 for TBT3, and else 0.
+-- Assumes nothing.
 use borrow.Author.Needs.{needs}
 use Rattle.drom.proofs.header.stored_crc8.Statement.{statement}
 use Rattle.drom.proofs.header.stored_crc8.Tie as tie

@@ -1,3 +1,5 @@
+-- `drom::header::stored_uuid` meets its contract: bytes 1 to 8 for TBT3, which are there to be read, and else 0.
+-- Assumes nothing.
 use borrow.Author.Needs.{needs}
 use Rattle.drom.proofs.header.stored_uuid.Statement.{statement}
 use Rattle.drom.proofs.header.stored_uuid.Tie as tie

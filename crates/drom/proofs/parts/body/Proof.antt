@@ -1,3 +1,5 @@
+-- `drom::parts::body` meets its contract: an accepted header's body starts inside the DROM, and the part runs from there to the end.
+-- Assumes nothing.
 use Prim.Native.Nat.{ℕ}
 use lib.ListN.{drop}
 use mathlib.Core.Path.{sym, ap, _∙_}

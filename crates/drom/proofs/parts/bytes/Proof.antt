@@ -1,3 +1,5 @@
+-- `drom::parts::bytes` meets its contract: the part from 0 to the end is the whole DROM.
+-- Assumes nothing.
 use borrow.Rule.Slice.PartAt.{part-to-end}
 use denote.Ref.{now}
 use borrow.Author.Needs.{needs}

@@ -1,3 +1,5 @@
+-- `drom::parts::head` meets its contract: an accepted header's body starts inside the DROM, and the part runs up to there.
+-- Assumes nothing.
 use Prim.Native.Nat.{ℕ, _-_}
 use mathlib.Core.Path.{_≡_}
 use lib.ListN.{take}

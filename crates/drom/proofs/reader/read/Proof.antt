@@ -1,3 +1,6 @@
+-- `drom::reader::read` meets its contract: a refusal before the entries leaves the buffer as lent, and else the report is of the header's values
+-- and of what the walk tells. An accepted header has the sizes that the walk requires.
+-- Assumes nothing.
 use mathlib.Core.Path.{_≡_, sym, ap, _∙_}
 use native.Mathlib.Omega.{arith}
 use borrow.Author.Tests.{le-ltb}

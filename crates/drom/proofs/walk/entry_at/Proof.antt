@@ -1,3 +1,6 @@
+-- `drom::walk::entry_at` meets its contract: 6, then 7, and else what `write_entry` answers and leaves, which has room and finds the kind
+-- that is listed.
+-- Assumes nothing.
 use mathlib.Core.Path.{_≡_, sym, ap, _∙_}
 use mathlib.Core.List.{List}
 use Prim.Native.Nat.{ℕ, _+_, _-_, _*_, _≤_, _<_}

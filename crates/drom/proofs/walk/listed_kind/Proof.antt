@@ -1,3 +1,6 @@
+-- `drom::walk::listed_kind` meets its contract: the kind does not matter for one byte, a generic kind or an unused adapter, and else it is
+-- the search's.
+-- Assumes nothing.
 use mathlib.Core.Path.{sym, ap, _∙_}
 use Prim.Native.Nat.{ℕ}
 use native.Mathlib.Omega.{arith}

@@ -1,3 +1,6 @@
+-- `drom::walk::walk` meets its contract. The loop's invariant, `Going`: the entries passed so far have their records at the buffer's front, and
+-- the rest of the walk is the one from here on. The measure is how many bytes are left.
+-- Assumes nothing.
 use Rattle.drom.proofs.WalkTurns.{going-on}
 use mathlib.Core.Path.{sym, _∙_}
 use Prim.Native.Nat.{_-_}

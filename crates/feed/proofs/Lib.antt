@@ -13,6 +13,7 @@ pub mod KindLaws
 pub mod RegisterLaws
 pub mod Cutting
 pub mod Never
+pub mod Widths
 pub mod PrefixEntries
 pub mod PrefixHeader
 pub mod PrefixLaws

@@ -40,12 +40,12 @@ use Rattle.feed.proofs.PrefixLaws.{prefix-same, prefix-room}
 
 -- ---- pieces joined
 
-bytes-left : (xs ys : List ℕ) → Bytes (xs ++ ys) → Bytes xs
+pub bytes-left : (xs ys : List ℕ) → Bytes (xs ++ ys) → Bytes xs
 bytes-left [] ys k i = omega arith
 bytes-left (x ∷ xs) ys k zero = k 0
 bytes-left (x ∷ xs) ys k (suc i) = bytes-left xs ys (λ j. k (suc j)) i
 
-bytes-right : (xs ys : List ℕ) → Bytes (xs ++ ys) → Bytes ys
+pub bytes-right : (xs ys : List ℕ) → Bytes (xs ++ ys) → Bytes ys
 bytes-right xs ys k i = rw getD-append-add at (k (length xs + i))
 
 feed-none : (s : State) (b : List ℕ) → Taken s [] b → feedOf s [] b ≡ answer 0 s b

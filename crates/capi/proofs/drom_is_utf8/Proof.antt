@@ -1,3 +1,5 @@
+-- `capi::drom_is_utf8` meets its contract: 1 where `util::is_utf8` says yes, and else 0.
+-- Assumes nothing.
 use borrow.Author.Needs.{needs}
 use Rattle.capi.proofs.drom_is_utf8.Statement.{statement}
 use Rattle.capi.proofs.drom_is_utf8.Tie as tie

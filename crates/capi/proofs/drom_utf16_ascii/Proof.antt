@@ -1,3 +1,5 @@
+-- `capi::drom_utf16_ascii` meets its contract: `util::bytes_to_utf16_ascii` writes the text, and each of its three answers is a number.
+-- Assumes nothing.
 use mathlib.Core.Path.{sym, _∙_}
 use borrow.Author.Needs.{needs}
 use Rattle.capi.proofs.drom_utf16_ascii.Statement.{statement}

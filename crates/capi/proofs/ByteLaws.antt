@@ -1,17 +1,18 @@
 -- Numbers to bytes and back, over the width.
 -- Assumes nothing.
-use Prim.Native.Nat.{ℕ, zero, suc, _+_, _*_, _/_, _<_, _≤_}
+use Prim.Native.Nat.{ℕ, zero, suc, _+_, _*_, _/_, _%_, _<_, _≤_}
 use mathlib.Core.List.{List, [], _∷_, _++_, append-nil}
-use mathlib.Core.Path.{_≡_, refl, ap, _∙_}
+use mathlib.Core.Path.{_≡_, refl, sym, ap, ap₂, _∙_}
 use native.Mathlib.Nat.{add-zero}
 use native.Mathlib.Numerals.{add-one}
 use native.Mathlib.Omega.{arith}
-use lib.ListN.{length, getD, drop, length-append}
-use lib.Seq.{drop-cons, drop-length}
-use Rattle.bits.specs.Bits.{le4, le8}
+use lib.ListN.{length, getD, drop, length-drop, length-append}
+use lib.Seq.{drop-cons, drop-length, length-take-le}
+use Rattle.bits.specs.Bits.{Bytes, le4, le8}
 use Rattle.bits.specs.Front.{Put}
+use Rattle.bits.proofs.LawsFields.{part-bytes}
 use Rattle.bits.proofs.LawsFront.{fitted}
-use Rattle.capi.specs.Bytes.{le, numbersBytes, number, numberAt}
+use Rattle.capi.specs.Bytes.{le, numbersBytes, number, part, numberAt}
 
 -- ---- a number's bytes
 
@@ -62,6 +63,23 @@ module _ (at : ℕ) (bytes : List ℕ) where
   pub number-eight : at + 8 ≤ length bytes
       → le8 (getD bytes at 0) (getD bytes (at + 1) 0) (getD bytes (at + 2) 0) (getD bytes (at + 3) 0) (getD bytes (at + 4) 0) (getD bytes (at + 5) 0) (getD bytes (at + 6) 0) (getD bytes (at + 7) 0) ≡ numberAt at 8 bytes
   number-eight h = omega (arith, simp add-zero at (number-spelled at 0 8 bytes (omega arith)))
+
+-- ---- and back
+
+-- The number of bytes has these bytes.
+le-number : (bytes : List ℕ) → Bytes bytes → le (length bytes) (number bytes) ≡ bytes
+unfolding le number
+le-number [] k = refl
+le-number (b ∷ bs) k =
+    let small : b < 256 = k 0 in
+    let low : (number bs * 256 + b) % 256 ≡ b = omega arith in
+    let high : (number bs * 256 + b) / 256 ≡ number bs = omega arith in
+    ap₂ (λ (x : ℕ) (y : ℕ). x ∷ le (length bs) y) low high ∙ ap (λ (l : List ℕ). b ∷ l) (le-number bs (λ i. k (suc i)))
+
+pub le-part : (bytes : List ℕ) → Bytes bytes → (at width : ℕ) → at + width ≤ length bytes → le width (numberAt at width bytes) ≡ part at width bytes
+le-part bytes k at width h =
+    let n : length (part at width bytes) ≡ width = length-take-le width (drop at bytes) (omega (arith, length-drop at bytes)) in
+    ap (λ (w : ℕ). le w (number (part at width bytes))) (sym n) ∙ le-number (part at width bytes) (part-bytes bytes width at k)
 
 -- ---- a whole table
 

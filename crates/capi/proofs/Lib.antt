@@ -1,4 +1,4 @@
--- The laws of the layouts, and what demand 1 says to a caller in C.
+-- The laws of the layouts, and what demands 1 and 3 say to a caller in C.
 pub mod ByteLaws
 pub mod StateLaws
 pub mod Examples
@@ -6,3 +6,5 @@ pub mod PlaceLaws
 pub mod ListingLaws
 pub mod OneAnswer
 pub mod Stays
+pub mod Never
+pub mod Demand3

@@ -1,4 +1,4 @@
--- What a reading answers and leaves, as one fact: only a private function's contract cites it.
+-- What a reading answers and leaves, as one fact: a private function's contract cites it, and the theorem that feeding comes to the same.
 -- Assumes nothing.
 use mathlib.Core.Path.{_≡_}
 use mathlib.Core.List.{List}

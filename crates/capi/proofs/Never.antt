@@ -14,7 +14,7 @@ use Rattle.feed.specs.Feed.{outside, openOf, finishOf}
 use Rattle.feed.specs.Pieces.{Left}
 use Rattle.feed.specs.Pieces.Left.{opened, fed}
 use Rattle.feed.proofs.Never.{left-sound, left-refusal, never, finish-never}
-use Rattle.feed.proofs.Widths.{left-fits}
+use Rattle.feed.proofs.Widths.{left-fits, left-register}
 use Rattle.capi.specs.State.{stateSize, stateBytes, stateIn}
 use Rattle.capi.specs.Calls.{noRoom, noReport, noState, feedIn, feedAnswer, finishAnswer}
 use Rattle.capi.specs.Feeding.{LeftBytes}
@@ -26,6 +26,7 @@ pub left-typed : {s : State} → Left s → Typed s
 left-typed h =
     let g = left-sound h (replicate 16368 0) (omega (arith, length-replicate {A = ℕ} 16368 0)) in
     let f = left-fits h in
+    let r = left-register h in
     let n = left-refusal h in
     record {
       announced = omega arith;

@@ -1,14 +1,13 @@
 -- The bounds of a state as facts: what a state holds that passes their test (`within-of`), and that a state of which the facts hold passes
 -- it (`in-within`).
 -- Assumes nothing.
-use Prim.Native.Nat.{ℕ, zero, suc, _+_, _-_, _*_, _≤_, _<_}
-use mathlib.Core.Path.{_≡_, refl, sym, ap, subst, _∙_}
+use Prim.Native.Nat.{ℕ, _+_, _-_, _*_, _≤_, _<_}
+use mathlib.Core.Path.{_≡_, refl, sym, ap, _∙_}
 use mathlib.Core.List.{List, [], _∷_}
 use mathlib.Core.Logic.{_⊎_, inl, inr}
 use mathlib.Core.Bool.{Bool, true, false, cond, not, _&&_, _||_, false≢true, or-true}
 use native.Mathlib.Omega.{arith}
 use lib.Dec.{ltb, leb, eqb}
-use lib.ListN.{length, getD, set}
 use borrow.Author.Tests.{ltb-true, ltb-false, leb-true, leb-false, eqb-true, eqb-false, lt-ltb, le-ltb, le-leb, eq-eqb, ne-eqb}
 use Rattle.bits.specs.Bits.{byte}
 use Rattle.drom.specs.Numbers.{wrongLength, shortTbt3, oddList, smallBuffer, tooFew, firstOf}
@@ -133,13 +132,16 @@ header-or c h e n = go (or-either _ _ e)
     go (inl t) = absurd (omega (arith, ltb-true (c .taken) 16 t))
     go (inr t) = eqb-true _ _ t
 
--- so many bytes of a body can be in that a record's size is a small number
-pub body-small : (c : Core) (h : List ℕ) → c .taken ≤ c .announced → (ltb (c .taken) 16 || headerPasses c h) ≡ true → c .taken - bodyStart h ≤ 4108
-body-small c h w e = go (leb 16 (c .taken)) refl
+-- a body is small where its header passes, and none is in before
+pub body-few : (c : Core) (h : List ℕ) → c .taken ≤ c .announced → (16 ≤ c .taken → headerNumber (c .announced) h ≡ 0) → c .taken - bodyStart h ≤ 4108
+body-few c h w passes = go (leb 16 (c .taken)) refl
   where
     go : (t : Bool) → leb 16 (c .taken) ≡ t → c .taken - bodyStart h ≤ 4108
-    go true q = omega (arith, header-small (c .announced) h (header-or c h e (leb-true 16 (c .taken) q)))
+    go true q = omega (arith, header-small (c .announced) h (passes (leb-true 16 (c .taken) q)))
     go false q = omega (arith, start-least h, leb-false 16 (c .taken) q)
+
+pub body-small : (c : Core) (h : List ℕ) → c .taken ≤ c .announced → (ltb (c .taken) 16 || headerPasses c h) ≡ true → c .taken - bodyStart h ≤ 4108
+body-small c h w e = body-few c h w (header-or c h e)
 
 unread-of : (c : Core) → nothingRead c ≡ true → Unread c
 unread-of c e =

@@ -9,7 +9,7 @@ use mathlib.Core.List.{List, [], _∷_, flatten}
 use mathlib.Core.Logic.{_⊎_}
 use mathlib.Core.Bool.{Bool, true, false, not, _&&_}
 use native.Mathlib.Omega.{arith}
-use lib.ListN.{length, replicate, length-replicate}
+use lib.ListN.{length, replicate}
 use lib.Dec.{ltb, eqb}
 use borrow.Author.Tests.{eqb-true, eqb-false}
 use Rattle.bits.specs.Bits.{Bytes}
@@ -25,7 +25,7 @@ use Rattle.drom.proofs.ReportLaws.{report-walked, report-refused, leaves-walked
 use Rattle.feed.specs.declared.feeding.State.{State}
 use Rattle.feed.specs.declared.feeding.Fed.{Fed}
 use Rattle.feed.specs.Bounds.{inBounds}
-use Rattle.feed.specs.Feed.{fresh, openOf, runIn, Answer, answer, both, feedOf, told, finishOf}
+use Rattle.feed.specs.Feed.{fresh, openOf, Answer, answer, both, feedOf, told, finishOf}
 use Rattle.feed.specs.Prefix.{prefixOf}
 use Rattle.feed.specs.Pieces.{feedMany, Told}
 use Rattle.feed.specs.Pieces.Left.{opened}

@@ -1,20 +1,17 @@
 -- What holds in the loop over a piece, and the four answers of a feed.
 -- Assumes nothing.
-use Prim.Native.Nat.{ℕ, _+_, _-_, _*_, _^_, _≤_, _<_}
+use Prim.Native.Nat.{ℕ, _+_, _-_, _≤_, _<_}
 use mathlib.Core.Path.{_≡_, refl, sym, subst, _∙_}
 use mathlib.Core.List.{List}
-use mathlib.Core.Bool.{Bool, true, false, cond, not, _&&_, _||_, false≢true}
+use mathlib.Core.Bool.{true, false}
 use native.Mathlib.Omega.{arith}
 use native.Mathlib.Numerals.{add-one}
 use lib.ListN.{length, getD, drop}
 use lib.Seq.{drop-cons, drop-length}
-use lib.Dec.{ltb, leb, eqb}
-use borrow.Author.Tests.{lt-ltb, le-ltb, eq-eqb, ltb-true, ltb-false, eqb-true, leb-true, le-leb}
-use Rattle.drom.specs.Header.{bodyStart, isTbt3}
-use Rattle.feed.specs.declared.feeding.Core.{Core}
+use borrow.Author.Tests.{lt-ltb, le-ltb}
 use Rattle.feed.specs.declared.feeding.State.{State}
 use Rattle.feed.specs.Run.{Run, stepOf, steps}
-use Rattle.feed.specs.Loop.{Live, Good}
+use Rattle.feed.specs.Loop.{Good}
 use Rattle.feed.specs.Bounds.{inBounds}
 use Rattle.feed.specs.Feed.{runIn, stateAfter, registerAfter, answer, feedOf}
 use Rattle.feed.proofs.StepLaws.{step-after}

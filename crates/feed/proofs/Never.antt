@@ -2,9 +2,9 @@
 -- gives 18 (`never`, `finish-never`); and what such a state holds as its refusal is at most 11 (`left-refusal`).
 -- Assumes nothing.
 use mathlib.Core.Path.{_≡_, refl, sym, ap, subst, _∙_}
-use mathlib.Core.Bool.{Bool, true, false, cond, not, _&&_}
+use mathlib.Core.Bool.{Bool, true, false, cond, _&&_}
 use mathlib.Core.List.{List, [], _∷_}
-use Prim.Native.Nat.{ℕ, suc, _-_, _+_, _%_, _^_, _≤_, _<_}
+use Prim.Native.Nat.{ℕ, suc, _-_, _%_, _^_, _≤_, _<_}
 use native.Mathlib.Omega.{arith}
 use borrow.Author.Tests.{eqb-true, eqb-false, ltb-false, le-leb}
 use lib.Dec.{ltb, leb, eqb}
@@ -80,7 +80,7 @@ open-sound list size room w b h = go (firstOf (openTests list size room))
     go n = by n (eqb n 0)
 
 -- a property of an answer's state: that of the state before, or that of the state after all the bytes
-feed-cases : (P : State → Type 0) (s : State) (xs b : List ℕ) → P s
+pub feed-cases : (P : State → Type 0) (s : State) (xs b : List ℕ) → P s
     → (Taken s xs b → P (stateAfter (steps (runIn s b) xs) (registerAfter (s .core .register) (s .core .taken) xs)))
     → P (feedOf s xs b .fed .state)
 feed-cases P s xs b p f = go (eqb (feedOf s xs b .fed .number) 0) refl

@@ -30,7 +30,7 @@ use Rattle.feed.specs.Pieces.Left.{fed}
 use Rattle.feed.proofs.StepLaws.{steps-nil}
 use Rattle.feed.proofs.BoundsLaws.{beside-register}
 use Rattle.feed.proofs.WithinLaws.{steps-in}
-use Rattle.feed.proofs.KindLaws.{table-long, table-at}
+use Rattle.feed.proofs.KindLaws.{table-at}
 use Rattle.feed.proofs.MoveLaws.{steps-move}
 use Rattle.feed.proofs.Cutting.{Taken, taken-is, accepted, feed-refused, take-both}
 use Rattle.feed.proofs.Never.{fresh-in}

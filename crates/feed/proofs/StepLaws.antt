@@ -3,7 +3,7 @@
 use Prim.Native.Nat.{ℕ, zero, suc, _+_, _-_, _≤_, _<_}
 use mathlib.Core.Path.{_≡_, refl, ap, _∙_}
 use mathlib.Core.List.{List, [], _∷_, _++_}
-use mathlib.Core.Bool.{Bool, true, false, not, _&&_}
+use mathlib.Core.Bool.{Bool, true, false}
 use native.Mathlib.Omega.{arith}
 use lib.ListN.{length, getD, set, length-set}
 use lib.Seq.{sets, length-sets, length-take-le}
@@ -16,8 +16,8 @@ use Rattle.entry.specs.Decode.{numberOf, decodeOf}
 use Rattle.entry.proofs.FitLaws.{refused-number}
 use Rattle.record.specs.Record.{recordOf}
 use Rattle.record.proofs.WriteLaws.{written-room}
-use Rattle.drom.specs.Numbers.{wrongLength, shortTbt3, zeroLength, pastEnd, firstOf}
-use Rattle.drom.specs.Header.{lengthIn, isTbt3, bodyStart, headerNumber}
+use Rattle.drom.specs.Numbers.{zeroLength, pastEnd}
+use Rattle.drom.specs.Header.{bodyStart, headerNumber}
 use Rattle.feed.specs.declared.feeding.Core.{Core}
 use Rattle.feed.specs.Run.{Run, run, withCore, withPending, counted, refused, filled, recorded, judged, pendingEntry, pendingAt, endedBy, ended, kept, begun, headed, stepOf, steps}
 use Rattle.feed.specs.Loop.{Live, Good}

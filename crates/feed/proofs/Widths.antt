@@ -1,31 +1,31 @@
--- What an opening leaves, and feeds after it, fits the widths of a state's numbers, also once something is refused and the bounds say
--- no more (`left-fits`). No feed makes a table of a state longer or shorter, whatever the state (`feed-long`).
+-- What an opening leaves, and feeds after it, fits the widths of a state's numbers: those of which the bounds speak (`left-fits`), and
+-- CRC32's register (`left-register`). No feed makes a table of a state longer or shorter, whatever the state (`feed-long`).
 -- Assumes nothing.
-use mathlib.Core.Path.{_≡_, refl, sym, subst, _∙_}
+use mathlib.Core.Path.{_≡_, refl, _∙_}
 use mathlib.Core.Bool.{Bool, true, false, cond}
 use mathlib.Core.List.{List, [], _∷_}
-use Prim.Native.Nat.{ℕ, zero, suc, _+_, _-_, _/_, _%_, _^_, _≤_, _<_}
+use Prim.Native.Nat.{ℕ, zero, suc, _+_, _-_, _*_, _/_, _%_, _^_, _≤_, _<_}
 use native.Mathlib.Omega.{arith}
-use borrow.Author.Tests.{ltb-true, ltb-false, eqb-true, eqb-false}
 use lib.Bits.{bitXor, xor-lt}
-use lib.Dec.{ltb, eqb}
-use lib.ListN.{length, set, drop, replicate, length-set}
+use lib.Dec.{eqb}
+use lib.ListN.{length, drop, replicate, length-set}
 use lib.Seq.{getD-drop}
 use Rattle.bits.specs.Bits.{Bytes}
 use Rattle.util.specs.Crc.{times, over, bitOf32, byteOf32}
 use Rattle.drom.specs.Numbers.{firstOf}
-use Rattle.drom.specs.Header.{openTests}
+use Rattle.drom.specs.Header.{bodyStart, openTests, headerNumber}
 use Rattle.feed.specs.declared.feeding.Core.{Core}
 use Rattle.feed.specs.declared.feeding.State.{State}
 use Rattle.feed.specs.Kinds.{tableOf}
-use Rattle.feed.specs.Run.{Run, withPending, counted, refused, kept, stepOf, steps}
-use Rattle.feed.specs.Bounds.{Live, Good}
-use Rattle.feed.specs.Feed.{fresh, openOf, registerAfter, runIn, stateAfter, Answer, answer, feedTests, feedOf}
+use Rattle.feed.specs.Run.{Run, withPending, kept, stepOf, steps}
+use Rattle.feed.specs.Bounds.{inBounds}
+use Rattle.feed.specs.Feed.{fresh, openOf, registerAfter, runIn, stateAfter, answer, feedTests, feedOf}
 use Rattle.feed.specs.Pieces.{Left}
 use Rattle.feed.specs.Pieces.Left.{opened, fed}
-use Rattle.feed.proofs.StepLaws.{next, more, judged-is, ended-cases, kept-cases, step-cases, step-after, steps-nil, steps-cons}
-use Rattle.feed.proofs.Cutting.{Taken, taken-is, accepted, feed-refused}
-use Rattle.feed.proofs.Never.{Sound, left-sound}
+use Rattle.feed.proofs.StepLaws.{next, more, ended-cases, kept-cases, step-cases, steps-nil, steps-cons}
+use Rattle.feed.proofs.BoundsLaws.{Unread, Within, bounds-within, within-of, body-few}
+use Rattle.feed.proofs.BoundsLaws.Within.{going, opening, header, entry}
+use Rattle.feed.proofs.Never.{feed-cases, left-bounds}
 
 -- ---- the register has 32 bits
 
@@ -54,96 +54,48 @@ register-small c n xs h k = over-small c (drop (13 - n) xs) h (λ i. rw getD-dro
 
 -- ---- the numbers
 
--- what holds of them, refused or not
+-- the bounds say it of all but the register
 pub record Fits (c : Core) : Type 0 where
   pub offset : c .offset ≤ c .taken
-  pub register : c .register < 2 ^ 32
-  pub fill : c .fill ≤ 254
+  pub fill : c .fill ≤ c .taken
   pub count : c .count ≤ c .taken
-  pub written : c .written ≤ 16368
+  pub written : c .written ≤ 4 * 4108
 
--- four bytes for each of at most 4,092 behind the header
-room-written : (c : Core) → Live c → c .taken ≤ c .announced → c .written ≤ 16368
-room-written c v h = go (ltb (c .taken) 16) refl
+unread-fits : (c : Core) → Unread c → Fits c
+unread-fits c u = record { offset = omega (arith, u .offset); fill = omega (arith, u .fill); count = omega (arith, u .count); written = omega (arith, u .written) }
+
+bounds-fit : (c : Core) (h p : List ℕ) → inBounds c h p ≡ true → Fits c
+bounds-fit c h p e = go (within-of c h p e)
   where
-    go : (t : Bool) → ltb (c .taken) 16 ≡ t → c .written ≤ 16368
-    go true e = let n = ltb-true (c .taken) 16 e in omega (arith, v .room)
-    go false e = let n = v .small (ltb-false (c .taken) 16 e) in omega (arith, v .room)
+    few : (16 ≤ c .taken → headerNumber (c .announced) h ≡ 0) → c .taken - bodyStart h ≤ 4108
+    few passes = body-few c h (bounds-within c h p e) passes
 
--- while nothing is refused, the bounds say it
-live-fits : (r : Run) → Good r → r .core .refusal ≡ 0 → r .core .offset ≤ r .core .taken → r .core .register < 2 ^ 32 → Fits (r .core)
-live-fits r g z o c =
-    let v = g .live z in
-    record { offset = o; register = c; fill = v .filling; count = v .fewer; written = room-written (r .core) v (g .within) }
-
-module _ (r : Run) (b : ℕ) (f : Fits (r .core)) where
-  -- a byte is counted, and something refused, or held as refused
-  counted-fits : (n at : ℕ) → at ≤ r .core .taken + 1 → Fits (refused (counted (r .core)) n at)
-  counted-fits n at h =
-      record { offset = h; register = f .register; fill = f .fill; count = omega (arith, f .count); written = f .written }
-
-  as-held : Fits (counted (r .core))
-  as-held = counted-fits (r .core .refusal) (r .core .offset) (omega (arith, f .offset))
-
-  kept-fits : r .core .refusal ≡ 0 → Good (kept (next r) b) → Fits (kept (next r) b .core)
-  kept-fits z =
-      kept-cases (next r) b (λ (x : Run). Good x → Fits (x .core))
-      (λ m g. live-fits _ g z (as-held .offset) (f .register))
-      (λ m.
-      ended-cases (withPending (next r) (next r .core) (more (next r) b)) (λ (x : Run). Good x → Fits (x .core))
-      (λ e q g. live-fits _ g z (as-held .offset) (f .register))
-      (λ n q g. counted-fits n _ (omega arith)))
-
-  step-fits : Good (stepOf r b) → Fits (stepOf r b .core)
-  step-fits =
-      let x : List ℕ = set (r .header) (r .core .taken) b in
-      step-cases (λ (x : Run). Good x → Fits (x .core)) r b
-      (λ y g. as-held)
-      (λ y n g. as-held)
-      (λ y n g. rw (judged-is (counted (r .core)) x) (counted-fits _ 0 (omega arith)))
-      (λ y n w g. as-held)
-      (λ y n g. counted-fits _ (r .core .taken) (omega arith))
-      (λ y n g. counted-fits _ (r .core .taken) (omega arith))
-      (λ y n g. kept-fits y g)
-
-steps-fits : (r : Run) (xs : List ℕ) → Good r → Fits (r .core) → Bytes xs → length xs ≤ r .core .announced - r .core .taken → Fits (steps r xs .core)
-steps-fits r [] g f k h = rw steps-nil f
-steps-fits r (x ∷ xs) g f k h =
-    let a = step-after r x g (omega (arith, g .within)) (k 0) in
-    rw steps-cons
-    (steps-fits (stepOf r x) xs (a .good) (step-fits r x f (a .good)) (λ i. k (suc i)) (omega (arith, a .further, a .same)))
-
-feed-fits : (s : State) (xs b : List ℕ) → Sound s → Fits (s .core) → Bytes xs → Fits (feedOf s xs b .fed .state .core)
-feed-fits s xs b g f k = go (eqb (feedOf s xs b .fed .number) 0) refl
-  where
-    taken : Taken s xs b → Fits (stateAfter (steps (runIn s b) xs) (registerAfter (s .core .register) (s .core .taken) xs) .core)
-    taken t =
-        let n = steps-fits (runIn s b) xs (g b (t .room)) f k (t .within) in
-        record {
-          offset = n .offset;
-          register = register-small (s .core .register) (s .core .taken) xs (f .register) k;
-          fill = n .fill;
-          count = n .count;
-          written = n .written;
-        }
-
-    go : (t : Bool) → eqb (feedOf s xs b .fed .number) 0 ≡ t → Fits (feedOf s xs b .fed .state .core)
-    go true e =
-        let t = accepted s xs b (eqb-true (feedOf s xs b .fed .number) 0 e) in
-        subst (λ (a : Answer). Fits (a .fed .state .core)) (sym (taken-is s xs b t)) (taken t)
-    go false e = subst (λ (a : Answer). Fits (a .fed .state .core)) (sym (feed-refused s xs b (eqb-false (feedOf s xs b .fed .number) 0 e))) f
-
-open-fits : (list : List ℕ) (size room : ℕ) → Fits (openOf list size room .core)
-unfolding openOf
-open-fits list size room = go (firstOf (openTests list size room)) (eqb (firstOf (openTests list size room)) 0)
-  where
-    go : (n : ℕ) (t : Bool) → Fits (cond t (fresh size 0 (tableOf list)) (fresh 0 n (replicate 64 0)) .core)
-    go n true = record { offset = omega arith; register = omega arith; fill = omega arith; count = omega arith; written = omega arith }
-    go n false = record { offset = omega arith; register = omega arith; fill = omega arith; count = omega arith; written = omega arith }
+    go : Within c h p → Fits c
+    go (going g) =
+        let f = g .fit in
+        record { offset = omega (arith, g .unset); fill = omega (arith, g .kept); count = omega (arith, f .fewer); written = omega (arith, f .most, few (g .passes)) }
+    go (opening o) = unread-fits c (o .unread)
+    go (header a) = unread-fits c (a .unread)
+    go (entry a) =
+        let f = a .fit in
+        record { offset = omega (arith, a .come); fill = omega (arith, a .come); count = omega (arith, f .fewer, a .come); written = omega (arith, f .most, a .come, few (λ _. a .passes)) }
 
 pub left-fits : {s : State} → Left s → Fits (s .core)
-left-fits (opened list size room w) = open-fits list size room
-left-fits (fed {s} h xs b k) = feed-fits s xs b (left-sound h) (left-fits h) k
+left-fits {s} h = bounds-fit (s .core) (s .header) (s .pending) (left-bounds h)
+
+opened-register : (list : List ℕ) (size room : ℕ) → openOf list size room .core .register < 2 ^ 32
+unfolding openOf
+opened-register list size room = go (firstOf (openTests list size room)) (eqb (firstOf (openTests list size room)) 0)
+  where
+    go : (n : ℕ) (t : Bool) → cond t (fresh size 0 (tableOf list)) (fresh 0 n (replicate 64 0)) .core .register < 2 ^ 32
+    go n true = omega arith
+    go n false = omega arith
+
+pub left-register : {s : State} → Left s → s .core .register < 2 ^ 32
+left-register (opened list size room w) = opened-register list size room
+left-register (fed {s} h xs b k) =
+    let small = left-register h in
+    feed-cases (λ (x : State). x .core .register < 2 ^ 32) s xs b small (λ t. register-small (s .core .register) (s .core .taken) xs small k)
 
 -- ---- the tables
 

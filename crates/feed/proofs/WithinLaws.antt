@@ -1,8 +1,8 @@
 -- A byte keeps a state within its bounds (`step-within`), and so do bytes one after the other (`steps-in`); and a state that passes the test
 -- of the bounds is safe to feed (`good-of`).
 -- Assumes nothing.
-use Prim.Native.Nat.{ℕ, zero, suc, _+_, _-_, _*_, _^_, _≤_, _<_}
-use mathlib.Core.Path.{_≡_, refl, sym, ap, subst, _∙_}
+use Prim.Native.Nat.{ℕ, _+_, _-_, _^_, _≤_, _<_}
+use mathlib.Core.Path.{_≡_, refl, sym, ap}
 use mathlib.Core.List.{List, [], _∷_}
 use mathlib.Core.Logic.{_⊎_, inl, inr}
 use mathlib.Core.Bool.{Bool, true, false}
@@ -17,10 +17,10 @@ use Rattle.entry.proofs.FitLaws.{refused-number}
 use Rattle.record.proofs.WriteLaws.{written-room, written-least}
 use Rattle.drom.specs.Header.{bodyStart, headerNumber}
 use Rattle.feed.specs.declared.feeding.Core.{Core}
-use Rattle.feed.specs.Run.{Run, withPending, counted, refused, judged, pendingEntry, pendingAt, kept, stepOf, steps}
+use Rattle.feed.specs.Run.{Run, withPending, counted, refused, pendingEntry, pendingAt, kept, stepOf, steps}
 use Rattle.feed.specs.Bounds.{inBounds}
 use Rattle.feed.specs.Loop.{Live, Good}
-use Rattle.feed.proofs.BoundsLaws.{start-least, header-small, Fit, Going, Unread, AtHeader, AtEntry, Within, bounds-within, within-of, in-within, opening-some}
+use Rattle.feed.proofs.BoundsLaws.{start-least, header-small, Going, Unread, AtEntry, Within, bounds-within, within-of, in-within, opening-some}
 use Rattle.feed.proofs.BoundsLaws.Within.{going, opening, header, entry}
 use Rattle.feed.proofs.StepLaws.{next, more, judged-is, ended-cases, kept-cases, AtFirst, InEntry, step-cases, step-refused, steps-nil, steps-cons}
 use Rattle.feed.proofs.MoveLaws.{step-moves, steps-move}

@@ -1,12 +1,11 @@
 -- `capi::put_core` meets its contract. Six numbers, and behind them the register and the refusal.
 -- Assumes nothing.
-use mathlib.Core.Path.{_≡_, refl, sym, ap}
-use Prim.Native.Nat.{ℕ, _%_}
-use mathlib.Core.List.{_∷_, []}
+use mathlib.Core.Path.{_≡_, refl}
+use Prim.Native.Nat.{_%_}
 use native.Mathlib.Omega.{arith}
 use mir.Syntax.{w8}
 use mir.Val.{Fits}
-use Rattle.bits.proofs.LawsFront.{follows, fitted, wrote-le, put-le}
+use Rattle.bits.proofs.LawsFront.{follows, fitted, put-le}
 use Rattle.capi.specs.Bytes.{le, numbersBytes}
 use borrow.Author.Needs.{needs}
 use Rattle.capi.proofs.feeding.put_core.Statement.{statement}

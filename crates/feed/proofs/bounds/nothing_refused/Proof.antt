@@ -1,12 +1,12 @@
 -- `feed::bounds::nothing_refused` meets its contract: the tests in their order. Where the header passes or is not in, the body is small.
 -- Assumes nothing.
 use mathlib.Core.Path.{_≡_, sym, _∙_}
-use mathlib.Core.Bool.{true, false, _||_}
+use mathlib.Core.Bool.{true, _||_}
 use native.Mathlib.Omega.{arith}
 use denote.Ref.{now}
 use lib.Dec.{ltb}
 use borrow.Author.Tests.{eq-eqb, ne-eqb, le-leb, lt-leb, not-true, not-false}
-use Rattle.feed.specs.Bounds.{headerPasses, pendingFits, nothingRefused}
+use Rattle.feed.specs.Bounds.{headerPasses, nothingRefused}
 use Rattle.feed.proofs.BoundsLaws.{body-small}
 use borrow.Author.Needs.{needs}
 use Rattle.feed.proofs.bounds.nothing_refused.Statement.{statement}

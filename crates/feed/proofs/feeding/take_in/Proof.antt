@@ -7,7 +7,7 @@ use mathlib.Core.Logic.{⊎-elim}
 use Prim.Native.Nat.{ℕ, _+_, _-_, _^_, _≤_, _<_}
 use native.Mathlib.Omega.{arith}
 use denote.Ref.{now}
-use mir.Syntax.{w8, w64}
+use mir.Syntax.{w64}
 use mir.Val.{Fits}
 use lib.ListN.{length, getD, set}
 use lib.Seq.{getD-set-other}

@@ -1,4 +1,6 @@
 // Bytes at the front of a lent buffer, and numbers of several bytes.
+#![tactic(auto)]
+
 ghost use Rattle.std.specs.Prelude.{◌≡◌, ◌∷◌, []};
 ghost use Rattle.bits.specs.Bits.{byte, le2, le4, le8};
 ghost use Rattle.bits.specs.Front.{Put};

@@ -1,4 +1,5 @@
 // The face to C and Rust: what `rt staticlib capi` exports, over the proved library. A slice is a pointer and a length.
+#![tactic(auto)]
 ghost use Rattle.std.specs.Prelude.{◌≡◌, length};
 ghost use Rattle.bits.specs.Bits.{flag};
 ghost use Rattle.util.specs.Crc.{over, crc_of8, crc_of32, byte_of32};

@@ -4,6 +4,7 @@
 // in lower-case hex, - for none. A DROM is cut in two at every place, and fed byte by byte, byte by byte among empty pieces, and
 // in pieces of 64; where LIST is of even length it is also read over a slice of structs. `differs LIST DROM OTHER` reads DROM
 // and feeds OTHER. Writes each difference, and how many there were.
+#![tactic(auto)]
 mod feedings;
 mod whole;
 

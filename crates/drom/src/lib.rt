@@ -1,4 +1,5 @@
 // A DROM that is lent whole: its report, its records, and parts of its own bytes.
+#![tactic(auto)]
 pub mod header;
 pub mod parts;
 pub mod reader;

@@ -1,4 +1,5 @@
 // What the reader says of the DROM on standard input.
+#![tactic(auto)]
 use libc::STDIN_FILENO;
 
 fn main() {

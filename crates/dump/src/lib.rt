@@ -1,5 +1,6 @@
 // Reads a DROM from a file descriptor and writes what the reader says of it to standard output: a line with the refusal and the
 // record count, and then a line a record. There is no list of adapters.
+#![tactic(auto)]
 use libc::STDOUT_FILENO;
 
 // The largest DROM has 4,108 bytes. One more is read, so that longer input is not taken for one.

@@ -1,5 +1,6 @@
 // dromdump's output on one dump after the other, each under its name: document 01's example, every refusal of a whole DROM, the sizes
 // around the largest, and the sample dumps. data/ has the dumps.
+#![tactic(auto)]
 use libc::STDOUT_FILENO;
 
 fn show(name: &[u8]) {

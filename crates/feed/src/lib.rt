@@ -1,4 +1,5 @@
 // A DROM that comes in pieces: open, feed, finish.
+#![tactic(auto)]
 mod bounds;
 pub mod feeding;
 

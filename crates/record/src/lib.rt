@@ -1,4 +1,5 @@
 // The record of an entry, written to the front of a lent buffer; and the way from one written record to the next.
+#![tactic(auto)]
 pub mod step;
 pub mod write;
 

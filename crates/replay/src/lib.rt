@@ -5,6 +5,7 @@
 // step, set apart by `; `, and then `buffer BUFFER`; a STEP is a piece, `?` for a finish, or `@SIZE`, after which feeds are lent only
 // the first SIZE bytes. Bytes are in lower-case hex, - for none. BUFFER is what is left of the buffer lent, which is filled with a5
 // before, without its tail of a5.
+#![tactic(auto)]
 mod answers;
 mod feeding;
 mod reports;

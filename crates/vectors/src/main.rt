@@ -1,6 +1,7 @@
 // Compares the answers of util with those of the test vectors on standard input, a line for each:
 //     KIND INPUT EXPECTED
 // with bytes in lower-case hex, and - for no bytes. Writes each line whose answer is another, and how many there were.
+#![tactic(auto)]
 mod answers;
 mod hex;
 

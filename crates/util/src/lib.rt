@@ -1,5 +1,6 @@
 // The checksums and texts of a DROM, on which all else stands: the part of the Rust's src/util.rs that is wanted.
 #![tactic(auto)]
+
 pub mod crc;
 pub mod tables;
 pub mod utf16;

@@ -1,0 +1,10 @@
+-- `by_eight` meets its contract. The loop's invariant: from the register so far, the bytes from `i` on come to what all come to from the
+-- first register. A turn is `over_part`, the end `over_rest`. The measure is how many bytes are left. Assumes nothing.
+use Rattle.std.proofs.Common.{◌+◌, arith, rules}
+use Rattle.util.specs.Crc.{byte_of32}
+use Rattle.util.proofs.CrcLaws.{over_part}
+use Rattle.util.proofs.crc.by_eight.Goals as goal
+
+pub loop-i-preserved : goal.loop-i-preserved
+loop-i-preserved c =
+    (search rules, over_part byte_of32 c.args.bytes.now c.loop-i.i c.loop-i.x _ _ c.loop-i.invariant.1 (c.loop-i.i + 8) (omega arith) c.eight_bytes-x.ensures)

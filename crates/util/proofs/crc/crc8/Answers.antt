@@ -1,0 +1,9 @@
+-- `crc8` meets its contract. The loop's invariant: from the register so far, the bytes from `i` on come to what all come to from FF.
+-- The measure is how many bytes are left. Assumes nothing.
+use Rattle.util.specs.Crc.{byte_of8, crc_of8}
+use Rattle.util.proofs.CrcLaws.{over_end}
+use Rattle.util.proofs.crc.crc8.Goals as goal
+
+pub returns : goal.returns
+unfolding crc_of8
+returns c = over_end byte_of8 _ _ _ _ c.loop-i.invariant.1 c.loop-i-test.false

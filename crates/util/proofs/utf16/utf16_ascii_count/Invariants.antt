@@ -1,0 +1,11 @@
+-- `utf16_ascii_count` meets its contract. The loop's invariant is `Counting`: the count so far, and what is shown from `i` on, are the whole text's
+-- length. The measure is how many bytes are left. Assumes nothing.
+use Rattle.std.proofs.Common.{◌-◌, length}
+use Rattle.util.proofs.Text.{Counting}
+use Rattle.util.proofs.utf16.utf16_ascii_count.Given as goal
+
+abbrev pub invariant-loop-i : goal.invariant-loop-i
+invariant-loop-i l = Counting l.bytes l.i l.n
+
+abbrev pub decreases-loop-i : goal.decreases-loop-i
+decreases-loop-i l = length l.bytes - l.i

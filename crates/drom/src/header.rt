@@ -110,7 +110,7 @@ pub(crate) fn is_crc8_valid(drom: &[u8]) -> bool
 }
 
 // The values of a header: of the first 16 bytes of a DROM, or more.
-#[derive(Drop)]
+#[derive(Clone, Copy)]
 pub struct HeaderValues {
     pub version: u8,
     pub length: usize,

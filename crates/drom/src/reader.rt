@@ -7,7 +7,7 @@ use super::walk::walk;
 
 // What is told of a DROM: a refusal's number and offset, or 0 and 0; the header's values and verdicts; how many records were
 // written, and how many bytes they have.
-#[derive(Drop)]
+#[derive(Clone, Copy)]
 pub struct Report {
     pub number: u8,
     pub offset: usize,

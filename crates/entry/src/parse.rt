@@ -6,7 +6,7 @@ ghost use Rattle.entry.specs.Rows.{least, generic_row, adapter_row, display_port
 ghost use Rattle.entry.specs.Rows as row;
 ghost use Rattle.entry.specs.Decode.{mode_of, rate_of, name_of, device_of, values_of, name_refusal, utf16_refusal, unless_refused, row_entry, decode_of};
 
-#[derive(Drop)]
+#[derive(Clone, Copy)]
 pub struct Version {
     pub major: u8,
     pub minor: u8,
@@ -14,7 +14,7 @@ pub struct Version {
 
 // The values of an entry, by the rows of document 01's table. Texts and lists are counted, and their bytes stay in the
 // entry.
-#[derive(Drop)]
+#[derive(Clone, Copy)]
 pub enum DromEntry {
     Unknown,
     // An adapter that is other or not listed.
@@ -99,7 +99,7 @@ pub enum DromEntry {
 }
 
 // An entry, or the number of its refusal.
-#[derive(Drop)]
+#[derive(Clone, Copy)]
 pub enum Decoded {
     Is(DromEntry),
     Refused(u8),

@@ -15,7 +15,7 @@ use record::Written;
 
 // The numbers of a state. `fill` bytes of an entry are pending; `register` is CRC32's. The small ones stand last, so that a copy has
 // no gap in its middle.
-#[derive(Drop)]
+#[derive(Clone, Copy)]
 pub struct Core {
     pub announced: usize,
     pub taken: usize,
@@ -27,7 +27,7 @@ pub struct Core {
     pub refusal: u8,
 }
 
-#[derive(Drop)]
+#[derive(Clone, Copy)]
 pub struct State {
     pub core: Core,
     pub header: [u8; 16],
@@ -36,7 +36,7 @@ pub struct State {
 }
 
 // A feed's number, and the state that it leaves.
-#[derive(Drop)]
+#[derive(Clone, Copy)]
 pub struct Fed {
     pub number: u8,
     pub state: State,
@@ -329,7 +329,7 @@ fn take_in(
 }
 
 // A feed's number, and the numbers of the state that it leaves.
-#[derive(Drop)]
+#[derive(Clone, Copy)]
 pub struct FedCore {
     pub number: u8,
     pub core: Core,

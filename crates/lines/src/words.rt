@@ -57,7 +57,7 @@ pub fn word(text: &[u8], n: usize) -> &[u8] {
 }
 
 // What a word stands for as a number.
-#[derive(Drop)]
+#[derive(Clone, Copy)]
 pub enum Value {
     Is(usize),
     Unreadable,

@@ -8,14 +8,14 @@ ghost use Rattle.listed.specs.Pairs.{pairs_of, pairs_from, with_kind};
 use drom::Report;
 
 #[repr(C)]
-#[derive(Drop)]
+#[derive(Clone, Copy)]
 pub struct Adapter {
     pub number: u8,
     pub kind: u8,
 }
 
 // The kind of each number below 64.
-#[derive(Drop)]
+#[derive(Clone, Copy)]
 pub struct Kinds {
     of: [u8; 64],
 }

@@ -1,5 +1,6 @@
 // The record of an entry, written to the front of a lent buffer; and the way from one written record to the next.
 #![tactic(auto)]
+
 pub mod step;
 pub mod write;
 

@@ -4,7 +4,7 @@ ghost use Rattle.bits.specs.Bits.{byte};
 ghost use Rattle.record.specs.Step.{head_length, head_in, tagged_size, record_size};
 
 // The length is L, that of the entry.
-#[derive(Drop)]
+#[derive(Clone, Copy)]
 pub struct Head {
     pub tag: u8,
     pub offset: usize,

@@ -14,7 +14,7 @@ use entry::{Decoded, DromEntry, Version};
 use util::Utf16Ascii;
 
 // How many bytes the record has, or why none was written.
-#[derive(Drop)]
+#[derive(Clone, Copy)]
 pub enum Written {
     Record(usize),
     Refused(u8),

@@ -5,7 +5,7 @@ ghost use Rattle.util.specs.Utf16.{units, is_pair, alone, kept, utf16_text, utf1
 ghost use Rattle.util.specs.Shown.{shown, Shows};
 
 // What writing a text answers: how many bytes it wrote, or why it wrote none.
-#[derive(Drop)]
+#[derive(Clone, Copy)]
 pub enum Utf16Ascii {
     Written(usize),
     OddLength,

@@ -278,8 +278,8 @@ fn tag(e: DromEntry) -> u8
 
 // The payload of what the bytes decode to.
 fn put_payload(e: DromEntry, bytes: &[u8], out: &mut [u8]) -> usize
-    requires bytes_value { row_entry (row_is e) bytes.now ≡ decoded.Is e }
-    requires bytes_in_bounds { 4 * length bytes.now ≤ length out.old + 4 }
+    requires decodes { row_entry (row_is e) bytes.now ≡ decoded.Is e }
+    requires room { 4 * length bytes.now ≤ length out.old + 4 }
     ensures { Wrote (pack (payload_of bytes.now e)) out.old out.new result }
 {
     match e {
@@ -359,8 +359,8 @@ fn put_payload(e: DromEntry, bytes: &[u8], out: &mut [u8]) -> usize
 
 // The record of what the bytes decode to.
 fn put_record(e: DromEntry, offset: usize, bytes: &[u8], out: &mut [u8]) -> usize
-    requires bytes_value { row_entry (row_is e) bytes.now ≡ decoded.Is e }
-    requires bytes_in_bounds { 4 * length bytes.now ≤ length out.old }
+    requires decodes { row_entry (row_is e) bytes.now ≡ decoded.Is e }
+    requires room { 4 * length bytes.now ≤ length out.old }
     ensures { Wrote (record_of offset bytes.now e) out.old out.new result }
 {
     put_head(tag(e), offset, bytes.len(), out);

@@ -1,0 +1,11 @@
+-- `record::put_link` meets its contract. The byte is that of the fields.
+-- Assumes nothing.
+use borrow.Author.Rules.{rules}
+use Rattle.bits.proofs.LawsFront.{fitted}
+use Rattle.record.specs.Record.{payload_of}
+use Rattle.record.proofs.RecordLaws.{link_bytes}
+use Rattle.record.proofs.write.put_link.Goals as goal
+
+pub returns : goal.returns
+unfolding payload_of
+returns c = rw link_bytes (fitted c.put1.ensures (search rules))

@@ -1,0 +1,11 @@
+-- `record::put_pcie` meets its contract. The bytes are those of the fields.
+-- Assumes nothing.
+use borrow.Author.Rules.{rules}
+use Rattle.bits.proofs.LawsFront.{fitted}
+use Rattle.record.specs.Record.{payload_of}
+use Rattle.record.proofs.RecordLaws.{pcie_bytes}
+use Rattle.record.proofs.write.put_pcie.Goals as goal
+
+pub returns : goal.returns
+unfolding payload_of
+returns c = rw pcie_bytes (fitted c.put2.ensures (search rules))

@@ -1,0 +1,18 @@
+-- `record::put_ranks` meets its contract. The loop's invariant: the ranks before byte `i` are written, and the buffer is as long as lent.
+-- The measure is how many bytes are left.
+-- Assumes nothing.
+use native.Mathlib.Omega.{arith}
+use lib.ListN.{length-set, drop_of_length-le}
+use Rattle.record.proofs.Turns.{writing_byte, writing_end, next_rank, no_rank}
+use Rattle.record.proofs.write.put_ranks.Goals as goal
+
+pub loop-i-preserved : goal.loop-i-preserved
+loop-i-preserved c =
+    let at = c.loop-i in
+    let next = next_rank c.args.ranks.now at.i (omega arith) (omega (arith, c.type_inv.ranks at.i)) in
+    (omega arith, simp length-set at.invariant.1, writing_byte (rw next at at.invariant.2) (omega arith))
+
+pub returns : goal.returns
+returns c =
+    let at = c.loop-i in
+    writing_end (rw (drop_of_length-le c.args.ranks.now {i = at.i} (omega arith), no_rank) at at.invariant.2)

@@ -1,0 +1,16 @@
+-- `record::put_ranks` meets its contract. The loop's invariant: the ranks before byte `i` are written, and the buffer is as long as lent.
+-- The measure is how many bytes are left.
+-- Assumes nothing.
+use Prim.Native.Nat.{◌-◌, ◌≤◌}
+use mathlib.Core.Path.{◌≡◌}
+use lib.ListN.{length, drop}
+use Rattle.bits.specs.Fields.{pack}
+use Rattle.record.specs.Record.{rank_fields}
+use Rattle.record.proofs.Turns.{Writing}
+use Rattle.record.proofs.write.put_ranks.Given as goal
+
+abbrev pub invariant-loop-i : goal.invariant-loop-i
+invariant-loop-i l = (l.i ≤ length l.ranks) × (length l.out ≡ length l.initial.out) × Writing (pack (rank_fields l.ranks)) (pack (rank_fields (drop l.i l.ranks))) l.initial.out l.out l.i
+
+abbrev pub decreases-loop-i : goal.decreases-loop-i
+decreases-loop-i l = length l.ranks - l.i

@@ -9,7 +9,7 @@ use lib.Seq.{length-take-le}
 use Rattle.bits.specs.Front.{onto, Wrote}
 use Rattle.bits.proofs.LawsFront.{wrote_none, follows}
 use Rattle.entry.specs.declared.parse.Decoded.{Decoded}
-use Rattle.entry.specs.declared.parse.Decoded.TheVariants.{Is, Refused}
+use Rattle.entry.specs.declared.parse.Decoded.TheVariants.{Is}
 use Rattle.entry.specs.Decode.{number_of}
 use Rattle.record.specs.Record.{record_of}
 use Rattle.record.specs.Write.{record_bytes, answer_of}

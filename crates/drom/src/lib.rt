@@ -1,5 +1,6 @@
 // A DROM that is lent whole: its report, its records, and parts of its own bytes.
 #![tactic(auto)]
+
 pub mod header;
 pub mod parts;
 pub mod reader;

@@ -1,0 +1,16 @@
+-- `drom::parts::offset_from` meets its contract. The loop's invariant: the entry that is left to count from here on is the one asked for.
+-- The measure is how many bytes are left. Assumes nothing.
+use mathlib.Core.Path.{◌≡◌}
+use Prim.Native.Nat.{◌-◌, ◌≤◌}
+use lib.ListN.{length, drop}
+use Rattle.entry.specs.Adapters.{kind_in}
+use Rattle.drom.specs.Walk.{walk_of}
+use Rattle.drom.specs.Parts.{offset_in}
+use Rattle.drom.proofs.parts.offset_from.Given as goal
+
+abbrev pub invariant-loop-at : goal.invariant-loop-at
+invariant-loop-at l =
+    (l.at ≤ length l.drom) × (offset_in l.at (walk_of (kind_in l.list) l.at (drop l.at l.drom)).entries l.left ≡ offset_in l.start (walk_of (kind_in l.list) l.start (drop l.start l.drom)).entries l.n)
+
+abbrev pub decreases-loop-at : goal.decreases-loop-at
+decreases-loop-at l = length l.drom - l.at

@@ -1,0 +1,23 @@
+-- `drom::walk::walk` meets its contract. The loop's invariant, `Going`: the entries passed so far have their records at the buffer's front, and
+-- the rest of the walk is the one from here on. The measure is how many bytes are left.
+-- Assumes nothing.
+use Rattle.drom.proofs.WalkTurns.{going_on}
+use mathlib.Core.Path.{sym, ◌∙◌}
+use native.Mathlib.Omega.{arith}
+use Rattle.drom.proofs.WalkTurns.{going_start, going_next, going_refused, going_end}
+use Rattle.drom.proofs.walk.walk.Goals as goal
+
+pub loop-at-init : goal.loop-at-init
+loop-at-init c = going_start _ _ _ _ c.requires.1
+
+pub loop-at-smaller : goal.loop-at-smaller
+loop-at-smaller c = omega (arith, going_on _ _ _ _ _ _ _ _ c.loop-at.invariant c.loop-at-test.true _ c.entry_at.ensures.buffer _ (sym c.entry_at.ensures.answer ∙ c.in-Record.is))
+
+pub loop-at-preserved : goal.loop-at-preserved
+loop-at-preserved c = going_next _ _ _ _ _ _ _ _ c.loop-at.invariant c.loop-at-test.true _ c.entry_at.ensures.buffer _ c.requires.0 c.requires.2 c.requires.3 (sym c.entry_at.ensures.answer ∙ c.in-Record.is)
+
+pub returns-in-Refused : goal.returns-in-Refused
+returns-in-Refused c = going_refused _ _ _ _ _ _ _ _ c.loop-at.invariant c.loop-at-test.true _ c.entry_at.ensures.buffer _ (sym c.entry_at.ensures.answer ∙ c.in-Refused.is)
+
+pub returns : goal.returns
+returns c = going_end _ _ _ _ _ _ _ _ c.loop-at.invariant c.loop-at-test.false

@@ -107,8 +107,7 @@ fn state_in(bytes: &[u8]) -> State
 
 // The number of the refusal that the opened state holds, or 0; the state's 388 bytes at the front of state, where the next call
 // reads it. 255 for fewer bytes, which are then as lent.
-#[unsafe(no_mangle)]
-pub extern "C" fn drom_open(list: &[u8], announced: usize, records: &[u8], state: &mut [u8]) -> u8
+pub fn drom_open(list: &[u8], announced: usize, records: &[u8], state: &mut [u8]) -> u8
     ensures answer { result ≡ open_answer list.now announced records.now state.old }
     ensures state { state.new ≡ open_state list.now announced records.now state.old }
     ensures next { state_in state.new ≡ open_next list.now announced records.now state.old }
@@ -123,8 +122,7 @@ pub extern "C" fn drom_open(list: &[u8], announced: usize, records: &[u8], state
 
 // The feed's number; the state after it, where the next call reads it, and its records behind those before. 255 for a state of fewer
 // than 388 bytes, and then both are as lent.
-#[unsafe(no_mangle)]
-pub extern "C" fn drom_feed(state: &mut [u8], piece: &[u8], records: &mut [u8]) -> u8
+pub fn drom_feed(state: &mut [u8], piece: &[u8], records: &mut [u8]) -> u8
     ensures answer { result ≡ feed_answer state.old piece.now records.old }
     ensures state { state.new ≡ feed_state state.old piece.now records.old }
     ensures records { records.new ≡ feed_records state.old piece.now records.old }
@@ -144,8 +142,7 @@ pub extern "C" fn drom_feed(state: &mut [u8], piece: &[u8], records: &mut [u8]) 
 
 // The report's number, and its 96 bytes at the front of report. 255 for a state of fewer than 388 bytes or a report of fewer than 96,
 // which is then as lent.
-#[unsafe(no_mangle)]
-pub extern "C" fn drom_finish(state: &[u8], report: &mut [u8]) -> u8
+pub fn drom_finish(state: &[u8], report: &mut [u8]) -> u8
     ensures answer { result ≡ finish_answer state.now report.old }
     ensures report { report.new ≡ finish_report state.now report.old }
 {
@@ -173,16 +170,14 @@ fn state_number(state: &[u8], at: usize) -> usize
 }
 
 // How many records were written for a state.
-#[unsafe(no_mangle)]
-pub extern "C" fn drom_record_count(state: &[u8]) -> usize
+pub fn drom_record_count(state: &[u8]) -> usize
     ensures { result ≡ count_answer state.now }
 {
     state_number(state, 32)
 }
 
 // How many bytes they have.
-#[unsafe(no_mangle)]
-pub extern "C" fn drom_record_bytes(state: &[u8]) -> usize
+pub fn drom_record_bytes(state: &[u8]) -> usize
     ensures { result ≡ bytes_answer state.now }
 {
     state_number(state, 40)

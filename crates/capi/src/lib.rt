@@ -1,5 +1,6 @@
-// The face to C and Rust: what `rt staticlib capi` exports, over the proved library. A slice is a pointer and a length.
+// The face to C and Rust over the proved library: the calls that the static library capi_c exports. A slice is there a pointer and a length.
 #![tactic(auto)]
+
 ghost use Rattle.std.specs.Prelude.{◌≡◌, length};
 ghost use Rattle.bits.specs.Bits.{flag};
 ghost use Rattle.util.specs.Crc.{over, crc_of8, crc_of32, byte_of32};
@@ -15,23 +16,25 @@ mod numbers;
 mod parts;
 mod reading;
 
-#[unsafe(no_mangle)]
-pub extern "C" fn drom_crc8(bytes: &[u8]) -> u8
+pub use feeding::{drom_feed, drom_finish, drom_open, drom_record_bytes, drom_record_count};
+pub use listing::drom_read_listed;
+pub use parts::{drom_body, drom_entry, drom_header, drom_whole};
+pub use reading::drom_read;
+
+pub fn drom_crc8(bytes: &[u8]) -> u8
     ensures { result ≡ crc_of8 bytes.now }
 {
     util::crc8(bytes)
 }
 
-#[unsafe(no_mangle)]
-pub extern "C" fn drom_crc32(bytes: &[u8]) -> u32
+pub fn drom_crc32(bytes: &[u8]) -> u32
     ensures { result ≡ crc_of32 bytes.now }
 {
     util::crc32(bytes)
 }
 
 // The register after further bytes: starts at FFFFFFFF, and the last one's exclusive-or with FFFFFFFF is the CRC32.
-#[unsafe(no_mangle)]
-pub extern "C" fn drom_crc32_more(register: u32, bytes: &[u8]) -> u32
+pub fn drom_crc32_more(register: u32, bytes: &[u8]) -> u32
     ensures { result ≡ over byte_of32 register bytes.now }
 {
     util::crc32_more(register, bytes)
@@ -39,8 +42,7 @@ pub extern "C" fn drom_crc32_more(register: u32, bytes: &[u8]) -> u32
 
 // How many bytes of text stand at the front of out; 2^64 - 1 for an odd count of bytes, 2^64 - 2 for too little room,
 // and then out is as lent.
-#[unsafe(no_mangle)]
-pub extern "C" fn drom_utf16_ascii(bytes: &[u8], out: &mut [u8]) -> usize
+pub fn drom_utf16_ascii(bytes: &[u8], out: &mut [u8]) -> usize
     ensures answer { result ≡ utf16_number (utf16_answer bytes.now (length out.old)) }
     ensures buffer { out.new ≡ utf16_leaves bytes.now out.old }
 {
@@ -52,8 +54,7 @@ pub extern "C" fn drom_utf16_ascii(bytes: &[u8], out: &mut [u8]) -> usize
 }
 
 // 1 for well-formed UTF-8, else 0.
-#[unsafe(no_mangle)]
-pub extern "C" fn drom_is_utf8(bytes: &[u8]) -> u8
+pub fn drom_is_utf8(bytes: &[u8]) -> u8
     ensures { result ≡ flag (is_utf8 bytes.now) }
 {
     if util::is_utf8(bytes) { 1 } else { 0 }

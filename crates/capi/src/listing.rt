@@ -16,13 +16,7 @@ fn read_with(kinds: Kinds, drom: &[u8], records: &mut [u8], report: &mut [u8]) -
 }
 
 // What `drom_read` answers and leaves for the adapters' bytes.
-#[unsafe(no_mangle)]
-pub extern "C" fn drom_read_listed(
-    list: &[Adapter],
-    drom: &[u8],
-    records: &mut [u8],
-    report: &mut [u8],
-) -> u8
+pub fn drom_read_listed(list: &[Adapter], drom: &[u8], records: &mut [u8], report: &mut [u8]) -> u8
     ensures answer { result ≡ read_answer (pairs_of list.now) drom.now records.old report.old }
     ensures records { records.new ≡ read_records (pairs_of list.now) drom.now records.old report.old }
     ensures report { report.new ≡ read_report (pairs_of list.now) drom.now records.old report.old }

@@ -26,8 +26,7 @@ fn put_place(at: usize, size: usize, out: &mut [u8]) -> u8
 
 // Each of these four answers 0 with the part's place at the front of part, 0 and 0 for an empty one; or 255 where part has fewer than
 // 16 bytes, and then it is as lent.
-#[unsafe(no_mangle)]
-pub extern "C" fn drom_header(drom: &[u8], part: &mut [u8]) -> u8
+pub fn drom_header(drom: &[u8], part: &mut [u8]) -> u8
     ensures answer { result ≡ place_answer part.old }
     ensures place { part.new ≡ place_leaves (header_place drom.now) part.old }
 {
@@ -35,8 +34,7 @@ pub extern "C" fn drom_header(drom: &[u8], part: &mut [u8]) -> u8
     put_place(0, header.len(), part)
 }
 
-#[unsafe(no_mangle)]
-pub extern "C" fn drom_body(drom: &[u8], part: &mut [u8]) -> u8
+pub fn drom_body(drom: &[u8], part: &mut [u8]) -> u8
     ensures answer { result ≡ place_answer part.old }
     ensures place { part.new ≡ place_leaves (body_place drom.now) part.old }
 {
@@ -44,8 +42,7 @@ pub extern "C" fn drom_body(drom: &[u8], part: &mut [u8]) -> u8
     put_place(drom::header::body_start(drom), body.len(), part)
 }
 
-#[unsafe(no_mangle)]
-pub extern "C" fn drom_whole(drom: &[u8], part: &mut [u8]) -> u8
+pub fn drom_whole(drom: &[u8], part: &mut [u8]) -> u8
     ensures answer { result ≡ place_answer part.old }
     ensures place { part.new ≡ place_leaves (whole_place drom.now) part.old }
 {
@@ -54,8 +51,7 @@ pub extern "C" fn drom_whole(drom: &[u8], part: &mut [u8]) -> u8
 }
 
 // The n-th accepted entry, counted from 0.
-#[unsafe(no_mangle)]
-pub extern "C" fn drom_entry(list: &[u8], drom: &[u8], n: usize, part: &mut [u8]) -> u8
+pub fn drom_entry(list: &[u8], drom: &[u8], n: usize, part: &mut [u8]) -> u8
     ensures answer { result ≡ place_answer part.old }
     ensures place { part.new ≡ place_leaves (entry_place list.now drom.now n) part.old }
 {

@@ -31,8 +31,7 @@ pub(crate) fn put_report(r: Report, out: &mut [u8]) -> usize
 
 // The number of the report of a DROM; its 96 bytes at the front of report, and its records at the front of records. 255 for a report
 // of fewer bytes, and then both are as lent.
-#[unsafe(no_mangle)]
-pub extern "C" fn drom_read(list: &[u8], drom: &[u8], records: &mut [u8], report: &mut [u8]) -> u8
+pub fn drom_read(list: &[u8], drom: &[u8], records: &mut [u8], report: &mut [u8]) -> u8
     ensures answer { result ≡ read_answer list.now drom.now records.old report.old }
     ensures records { records.new ≡ read_records list.now drom.now records.old report.old }
     ensures report { report.new ≡ read_report list.now drom.now records.old report.old }

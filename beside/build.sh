@@ -4,7 +4,6 @@ root=$(cd "$beside/.." && pwd -P)
 folder=${RUST_TEXT:-$root/../shared}
 case $folder in /*) ;; *) folder=$PWD/$folder ;; esac
 build=$root/target/beside
-machine=$(uname -m)
 
 say() {
     printf 'beside: %s\n' "$*" >&2
@@ -45,84 +44,13 @@ compile_rust() {
         -o "$build/libtbtools.rlib" "$build/tbtools/lib.rs" || stop 2 "rustc refused the customer's Rust"
 }
 
-# ---- our library: the crate capi, proved, as libcapi.a for the machine at hand
+# ---- our library: the crate capi_c, proved, as libcapi.a
 
-# Prints the folder of the toolchain's kit, which rt stands in.
-find_kit() {
-    cd "${RATTLE_HOME:-$(dirname "$(readlink -f "$(command -v rt)")")/..}" && pwd -P
-}
-
-# Proves capi and writes target/staticlib/libcapi.a, for x86-64.
-prove_ours() { # KIT
-    if ! (cd "$root" && RATTLE_HOME=$1 rt staticlib capi) >"$build/rt.log" 2>&1; then
-        cat "$build/rt.log" >&2
-        stop 1 "our library was not proved"
-    fi
-}
-
-# Makes the folder NEW, with a link to each entry of the folder OLD but PART.
-link_all_but() { # PART OLD NEW
-    mkdir "$3"
-    for entry in "$2"/*; do
-        [ "${entry##*/}" = "$1" ] || ln -s "$entry" "$3/"
-    done
-}
-
-# Makes the folder SHADOW, the kit in links, with a clang that keeps the LLVM code that it is handed.
-shadow_kit() { # KIT SHADOW
-    rm -rf "$2"
-    inside=
-    for part in on "$machine" toolchain bin clang; do
-        link_all_but "$part" "$1$inside" "$2$inside"
-        inside=$inside/$part
-    done
-    bin=$2${inside%/clang}
-    mkdir "$bin/real" "$bin/kept"
-    ln -s "$1$inside" "$bin/real/clang"
-    cat >"$bin/clang" <<'END'
-#!/bin/sh
-here=${0%/*}
-for word in "$@"; do
-    case $word in *.bc) cp "$word" "$here/kept/$$-${word##*/}" ;; esac
-done
-exec "$here/real/clang" "$@"
-END
-    chmod +x "$bin/clang"
-}
-
-# Compiles the kept LLVM code with the toolchain's own settings, but for the machine at hand. It names x86-64 as its
-# processor, of which clang warns.
-compile_kept() { # BIN LIBRARY
-    rm -f "$2"
-    for code in "$1"/kept/*.bc; do
-        [ -f "$code" ] || stop 2 "the toolchain handed no LLVM code to its clang"
-        if ! "$1/real/clang" "--target=$machine-unknown-linux-gnu" --no-default-config -Wno-override-module \
-            -ffunction-sections -fdata-sections -mllvm -trap-unreachable -mllvm -no-trap-after-noreturn \
-            -c -x ir "$code" -o "${code%.bc}.o" -fPIC -O3 2>"$build/clang.log"; then
-            cat "$build/clang.log" >&2
-            stop 2 "clang could not compile our library for $machine"
-        fi
-        grep -v "^'x86-64' is not a recognized processor" "$build/clang.log" >&2 || true
-        "$1/llvm-ar" crs "$2" "${code%.bc}.o"
-    done
-}
-
-# Writes libcapi.a for the machine at hand, and to the file `ours` what it is.
+# Writes libcapi.a, and to the file `ours` what it is. The toolchain runs on x86-64 alone, and writes for it.
 build_ours() {
-    kit=$(find_kit)
-    library=$root/target/staticlib/libcapi.a
-    prove_ours "$kit"
-    if [ "$machine" = x86_64 ]; then
-        cp "$library" "$build/libcapi.a"
-        echo "ours: libcapi.a (x86-64)" >"$build/ours"
-    else
-        cp "$library" "$build/x86-64.a"
-        shadow_kit "$kit" "$build/kit"
-        prove_ours "$build/kit"
-        cmp -s "$library" "$build/x86-64.a" || stop 2 "the kit in links does not build what the kit does"
-        compile_kept "$build/kit/on/$machine/toolchain/bin" "$build/libcapi.a"
-        echo "ours: the same LLVM code, compiled for $machine by the kit's clang" >"$build/ours"
-    fi
+    "$root/bindings/library" || stop $? "our library was not built"
+    cp "$root/target/staticlib/libcapi.a" "$build/libcapi.a"
+    echo "ours: libcapi.a (x86-64)" >"$build/ours"
 }
 
 # ---- both, in one program
@@ -137,7 +65,7 @@ compile_driver() {
 
 # All that files are built from, in one number.
 sum_of() { # FILES, from the repository's root
-    { rustc -V && rt version && (cd "$root" && find "$@" -type f | LC_ALL=C sort | xargs cksum); } | cksum
+    { rustc -V && rt version && (cd "$root" && find "$@" -name out -prune -o -type f -print | LC_ALL=C sort | xargs cksum); } | cksum
 }
 
 # Whether a PART was built from what has this SUM. If not, what is there of it is forgotten, also if the build stops.

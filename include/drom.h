@@ -1,7 +1,7 @@
 /*
  * The proved reader of Thunderbolt device ROMs (DROMs), for C99 and later and for C++.
  *
- * Link target/staticlib/libcapi.a, which `rt staticlib capi` writes for x86-64 (System V calls).
+ * Link target/staticlib/libcapi.a, which `bindings/library` writes for x86-64 (System V calls).
  * crates/capi/specs defines every answer below; docs/PROMISES.md says what is proved.
  *
  * For every call:

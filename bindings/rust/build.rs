@@ -1,4 +1,4 @@
-//! Links the library that `rt staticlib capi` writes. DROM_LIB names its folder; without it that is
+//! Links the library that `bindings/library` writes. DROM_LIB names its folder; without it that is
 //! target/staticlib of the repository.
 
 use std::env;

@@ -17,7 +17,7 @@ use Rattle.drom.specs.Header.{body_start, open_tests, header_number}
 use Rattle.feed.specs.declared.feeding.Core.{Core}
 use Rattle.feed.specs.declared.feeding.State.{State}
 use Rattle.feed.specs.Kinds.{table_of}
-use Rattle.feed.specs.Run.{Run, with_pending, kept, step_of, steps}
+use Rattle.feed.specs.Run.{Run, with_pending, step_of, steps}
 use Rattle.feed.specs.Bounds.{in_bounds}
 use Rattle.feed.specs.Feed.{fresh, open_of, register_after, run_in, state_after, answer, feed_tests, feed_of}
 use Rattle.feed.specs.Pieces.{Left}

@@ -1,5 +1,6 @@
 // A DROM that comes in pieces: open, feed, finish.
 #![tactic(auto)]
+
 mod bounds;
 pub mod feeding;
 

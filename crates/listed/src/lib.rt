@@ -1,5 +1,6 @@
 // Reading a DROM whose adapters come as a lent slice of records, two bytes each: number and kind.
 #![tactic(auto)]
+
 ghost use Rattle.std.specs.Prelude.{◌≡◌, length, replicate};
 ghost use Rattle.drom.specs.Report.{report_of, leaves_of};
 ghost use Rattle.feed.specs.Kinds.{table_of};

@@ -1,5 +1,6 @@
 // The reader's entry over a slice of structs, for callers that have a list as bytes: test programs, which are asked in bytes.
 #![tactic(auto)]
+
 ghost use Rattle.std.specs.Prelude.{◌*◌, ◌≤◌, length};
 
 use drom::Report;

@@ -1,0 +1,16 @@
+-- `feed::take_entries` meets its contract: in the loop the entries so far lead where their bytes do, one by one.
+-- Assumes nothing.
+use Prim.Native.Nat.{◌-◌}
+use lib.ListN.{length}
+use Rattle.feed.specs.Run.{run}
+use Rattle.feed.specs.Loop.{passed}
+use Rattle.feed.proofs.AlongLaws.{Along}
+use Rattle.feed.proofs.feeding.take_entries.Given as goal
+
+abbrev pub invariant-loop-i : goal.invariant-loop-i
+invariant-loop-i l =
+    Along (run l.core l.header l.initial.pending l.kinds l.initial.records) l.piece (run (passed l.core l.i l.count l.written) l.header l.pending l.kinds l.records) l.i
+
+abbrev pub decreases-loop-i : goal.decreases-loop-i
+decreases-loop-i l =
+    length l.piece - l.i

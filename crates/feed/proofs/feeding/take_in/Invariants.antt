@@ -1,0 +1,14 @@
+-- `feed::take_in` meets its contract: at each turn the rest of the piece leads where all of it led from the start.
+-- Assumes nothing.
+use Prim.Native.Nat.{◌-◌}
+use lib.ListN.{length}
+use Rattle.feed.specs.Run.{run}
+use Rattle.feed.proofs.FeedLaws.{Held}
+use Rattle.feed.proofs.feeding.take_in.Given as goal
+
+abbrev pub invariant-loop-i : goal.invariant-loop-i
+invariant-loop-i l =
+    Held (run l.initial.core l.initial.header l.initial.pending l.kinds l.initial.records) l.piece (run l.core l.header l.pending l.kinds l.records) l.i
+
+abbrev pub decreases-loop-i : goal.decreases-loop-i
+decreases-loop-i l = length l.piece - l.i

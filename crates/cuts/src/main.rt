@@ -5,17 +5,20 @@
 // in pieces of 64; where LIST is of even length it is also read over a slice of structs. `differs LIST DROM OTHER` reads DROM
 // and feeds OTHER. Writes each difference, and how many there were.
 #![tactic(auto)]
+
 mod feedings;
 mod whole;
 
-ghost use Rattle.std.specs.Prelude.{◌+◌, ◌≤◌, length};
+ghost use Rattle.std.specs.Prelude.{◌+◌, ◌≤◌, length, IfOk};
 ghost use Rattle.cuts.specs.Counts.{OfOneLine};
 
 use check::same;
 use drom::Report;
-use libc::{STDIN_FILENO, STDOUT_FILENO};
 use lines::input::{INPUT, room};
 use lines::words::{find, is_comment, unhex, word};
+use std::io;
+use std::io::{Read, Write};
+use streams::{print_decimal, read_full};
 use whole::{ENOUGH, LENT, is_left_in_pieces, is_left_in_two, is_left_over_structs};
 
 // The most bytes of a list and of a DROM.
@@ -33,45 +36,59 @@ struct Tally {
 }
 
 // Writes a difference, of the feeding that `what` and `n` name, and counts it.
-fn counted(line: u64, what: &[u8], n: usize, agrees: bool) -> u64
-    ensures { result ≤ 1 }
+fn counted<W: Write>(out: &mut W, line: u64, what: &[u8], n: usize, agrees: bool) -> io::Result<u64>
+    ensures { IfOk result (λ count. count ≤ 1) }
 {
     if agrees {
-        return 0;
+        return Ok(0);
     }
-    io::write_all(STDOUT_FILENO, b"line ");
-    io::print_decimal(STDOUT_FILENO, line);
-    io::write_all(STDOUT_FILENO, what);
-    io::print_decimal(STDOUT_FILENO, n as u64);
-    io::write_all(STDOUT_FILENO, b" differs\n");
-    1
+    out.write_all(b"line ")?;
+    print_decimal(out, line)?;
+    out.write_all(what)?;
+    print_decimal(out, n as u64)?;
+    out.write_all(b" differs\n")?;
+    Ok(1)
 }
 
 // How many cuts in two differ.
-fn cuts(line: u64, list: &[u8], drom: &[u8], report: Report, whole: &[u8]) -> u64
-    ensures { result ≤ length drom.now + 1 }
+fn cuts<W: Write>(
+    out: &mut W,
+    line: u64,
+    list: &[u8],
+    drom: &[u8],
+    report: Report,
+    whole: &[u8],
+) -> io::Result<u64>
+    ensures { IfOk result (λ differ. differ ≤ length drom.now + 1) }
 {
     let mut differ: u64 = 0;
     let mut cut = 0;
     while cut <= drom.len() {
         let agrees = is_left_in_two(list, drom, cut, report, whole);
-        differ += counted(line, b": cut at ", cut, agrees);
+        differ += counted(out, line, b": cut at ", cut, agrees)?;
         cut += 1;
     }
-    differ
+    Ok(differ)
 }
 
 // How many of the three feedings in pieces differ.
-fn pieces(line: u64, list: &[u8], drom: &[u8], report: Report, whole: &[u8]) -> u64
-    ensures { result ≤ 3 }
+fn pieces<W: Write>(
+    out: &mut W,
+    line: u64,
+    list: &[u8],
+    drom: &[u8],
+    report: Report,
+    whole: &[u8],
+) -> io::Result<u64>
+    ensures { IfOk result (λ differ. differ ≤ 3) }
 {
     let bytes = is_left_in_pieces(list, drom, 1, false, report, whole);
     let among = is_left_in_pieces(list, drom, 1, true, report, whole);
     let larger = is_left_in_pieces(list, drom, 64, false, report, whole);
-    let first = counted(line, b": pieces of ", 1, bytes);
-    let second = counted(line, b": among empty pieces, pieces of ", 1, among);
-    let third = counted(line, b": pieces of ", 64, larger);
-    first + second + third
+    let first = counted(out, line, b": pieces of ", 1, bytes)?;
+    let second = counted(out, line, b": among empty pieces, pieces of ", 1, among)?;
+    let third = counted(out, line, b": pieces of ", 64, larger)?;
+    Ok(first + second + third)
 }
 
 // A list of odd length is no list of structs.
@@ -81,15 +98,23 @@ fn readings(list: &[u8]) -> u64
     if list.len() % 2 == 0 { 1 } else { 0 }
 }
 
-fn over_structs(line: u64, list: &[u8], drom: &[u8], report: Report, whole: &[u8]) -> u64
+fn over_structs<W: Write>(
+    out: &mut W,
+    line: u64,
+    list: &[u8],
+    drom: &[u8],
+    report: Report,
+    whole: &[u8],
+) -> io::Result<u64>
     requires { length list.now ≤ 256 }
-    ensures { result ≤ 1 }
+    ensures { IfOk result (λ differ. differ ≤ 1) }
 {
     if readings(list) == 0 {
-        return 0;
+        return Ok(0);
     }
     let agrees = is_left_over_structs(list, drom, report, whole);
     counted(
+        out,
         line,
         b": structs, of which there are ",
         list.len() / 2,
@@ -98,21 +123,27 @@ fn over_structs(line: u64, list: &[u8], drom: &[u8], report: Report, whole: &[u8
 }
 
 // What the feedings of `fed` leave, against what the reading of `drom` does.
-fn compare(line: u64, list: &[u8], drom: &[u8], fed: &[u8]) -> Tally
+fn compare<W: Write>(
+    out: &mut W,
+    line: u64,
+    list: &[u8],
+    drom: &[u8],
+    fed: &[u8],
+) -> io::Result<Tally>
     requires { (length list.now ≤ 256) × (length fed.now ≤ 4200) }
-    ensures { OfOneLine result }
+    ensures { IfOk result (λ t. OfOneLine t) }
 {
     let mut whole = [LENT; ENOUGH];
     let report = drom::read(list, drom, &mut whole);
-    let in_two = cuts(line, list, fed, report, &whole);
-    let in_pieces = pieces(line, list, fed, report, &whole);
-    let structs = over_structs(line, list, fed, report, &whole);
-    Tally {
+    let in_two = cuts(out, line, list, fed, report, &whole)?;
+    let in_pieces = pieces(out, line, list, fed, report, &whole)?;
+    let structs = over_structs(out, line, list, fed, report, &whole)?;
+    Ok(Tally {
         droms: 1,
         feedings: fed.len() as u64 + 4,
         readings: readings(list),
         differ: in_two + in_pieces + structs,
-    }
+    })
 }
 
 fn smaller(a: usize, b: usize) -> usize
@@ -122,18 +153,18 @@ fn smaller(a: usize, b: usize) -> usize
 }
 
 // A line that cannot be read differs.
-fn malformed(line: u64) -> Tally
-    ensures { OfOneLine result }
+fn malformed<W: Write>(out: &mut W, line: u64) -> io::Result<Tally>
+    ensures { IfOk result (λ t. OfOneLine t) }
 {
-    io::write_all(STDOUT_FILENO, b"line ");
-    io::print_decimal(STDOUT_FILENO, line);
-    io::write_all(STDOUT_FILENO, b": malformed\n");
-    Tally {
+    out.write_all(b"line ")?;
+    print_decimal(out, line)?;
+    out.write_all(b": malformed\n")?;
+    Ok(Tally {
         droms: 0,
         feedings: 0,
         readings: 0,
         differ: 1,
-    }
+    })
 }
 
 // How many bytes each word of a line stands for.
@@ -144,22 +175,30 @@ struct Words {
     fed: usize,
 }
 
-fn compare_lent(line: u64, n: Words, list: &[u8], drom: &[u8], fed: &[u8]) -> Tally
-    ensures { OfOneLine result }
+fn compare_lent<W: Write>(
+    out: &mut W,
+    line: u64,
+    n: Words,
+    list: &[u8],
+    drom: &[u8],
+    fed: &[u8],
+) -> io::Result<Tally>
+    ensures { IfOk result (λ t. OfOneLine t) }
 {
     let list_end = n.list;
     let drom_end = n.drom;
     let fed_end = n.fed;
     if smaller(list.len(), LIST) < list_end {
-        return malformed(line);
+        return malformed(out, line);
     }
     if drom.len() < drom_end {
-        return malformed(line);
+        return malformed(out, line);
     }
     if smaller(fed.len(), DROM) < fed_end {
-        return malformed(line);
+        return malformed(out, line);
     }
     compare(
+        out,
         line,
         &list[0..list_end],
         &drom[0..drom_end],
@@ -167,8 +206,14 @@ fn compare_lent(line: u64, n: Words, list: &[u8], drom: &[u8], fed: &[u8]) -> Ta
     )
 }
 
-fn compare_words(line: u64, list: &[u8], drom: &[u8], fed: &[u8]) -> Tally
-    ensures { OfOneLine result }
+fn compare_words<W: Write>(
+    out: &mut W,
+    line: u64,
+    list: &[u8],
+    drom: &[u8],
+    fed: &[u8],
+) -> io::Result<Tally>
+    ensures { IfOk result (λ t. OfOneLine t) }
 {
     let mut list_bytes = [0u8; LIST];
     let mut drom_bytes = [0u8; DROM];
@@ -178,27 +223,27 @@ fn compare_words(line: u64, list: &[u8], drom: &[u8], fed: &[u8]) -> Tally
         drom: unhex(drom, &mut drom_bytes),
         fed: unhex(fed, &mut fed_bytes),
     };
-    compare_lent(line, n, &list_bytes, &drom_bytes, &fed_bytes)
+    compare_lent(out, line, n, &list_bytes, &drom_bytes, &fed_bytes)
 }
 
-fn compare_line(line: u64, text: &[u8]) -> Tally
-    ensures { OfOneLine result }
+fn compare_line<W: Write>(out: &mut W, line: u64, text: &[u8]) -> io::Result<Tally>
+    ensures { IfOk result (λ t. OfOneLine t) }
 {
     if is_comment(text) {
-        return Tally {
+        return Ok(Tally {
             droms: 0,
             feedings: 0,
             readings: 0,
             differ: 0,
-        };
+        });
     }
     if same(word(text, 0), b"differs") {
-        return compare_words(line, word(text, 1), word(text, 2), word(text, 3));
+        return compare_words(out, line, word(text, 1), word(text, 2), word(text, 3));
     }
-    compare_words(line, word(text, 0), word(text, 1), word(text, 1))
+    compare_words(out, line, word(text, 0), word(text, 1), word(text, 1))
 }
 
-fn compare_lines(text: &[u8]) -> Tally
+fn compare_lines<W: Write>(out: &mut W, text: &[u8]) -> io::Result<Tally>
     requires { length text.now ≤ 262144 }
 {
     let mut t = Tally {
@@ -212,30 +257,34 @@ fn compare_lines(text: &[u8]) -> Tally
     while start < text.len() {
         let end = find(text, start, b'\n');
         line += 1;
-        let c = compare_line(line, &text[start..end]);
+        let c = compare_line(out, line, &text[start..end])?;
         t.droms += c.droms;
         t.feedings += c.feedings;
         t.readings += c.readings;
         t.differ += c.differ;
         start = end + 1;
     }
-    t
+    Ok(t)
 }
 
-fn put(n: u64, what: &[u8]) {
-    io::print_decimal(STDOUT_FILENO, n);
-    io::write_all(STDOUT_FILENO, what);
+fn put<W: Write>(out: &mut W, n: u64, what: &[u8]) -> io::Result<()> {
+    print_decimal(out, n)?;
+    out.write_all(what)
 }
 
-fn main() {
+fn compare_input<R: Read, W: Write>(input: &mut R, out: &mut W) -> io::Result<()> {
     let mut text = room();
-    let n = io::read_full(STDIN_FILENO, &mut text);
+    let n = read_full(input, &mut text)?;
     if n == INPUT {
-        io::write_all(STDOUT_FILENO, b"too many lines to read\n");
+        out.write_all(b"too many lines to read\n")?;
     }
-    let t = compare_lines(&text[..n]);
-    put(t.droms, b" DROMs, ");
-    put(t.feedings, b" feedings, ");
-    put(t.readings, b" readings over structs, ");
-    put(t.differ, b" differ\n");
+    let t = compare_lines(out, &text[..n])?;
+    put(out, t.droms, b" DROMs, ")?;
+    put(out, t.feedings, b" feedings, ")?;
+    put(out, t.readings, b" readings over structs, ")?;
+    put(out, t.differ, b" differ\n")
+}
+
+fn main(rt: HostRuntime) -> io::Result<()> {
+    compare_input(&mut rt.stdin(), &mut rt.stdout())
 }

@@ -1,5 +1,8 @@
 // Replays the answers of the customer's Rust on standard input (see the crate replay), which `beside/sample` wrote.
 #![tactic(auto)]
-fn main() {
-    replay::compare_input();
+
+use std::io;
+
+fn main(rt: HostRuntime) -> io::Result<()> {
+    replay::compare_input(&mut rt.stdin(), &mut rt.stdout())
 }

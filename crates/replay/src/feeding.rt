@@ -7,7 +7,7 @@ use lines::words::{MALFORMED, Value, find, from_word, large_number, number, unhe
 
 // Between two steps: the state, how much of the buffer is lent, and where the next answer goes. A step that cannot be read
 // leaves `end` at MALFORMED, past any text, where it stays.
-#[derive(Drop)]
+#[derive(Clone, Copy)]
 struct Turn {
     state: State,
     lent: usize,

@@ -2,7 +2,8 @@
 ghost use Rattle.std.specs.Prelude.{◌≡◌, length};
 
 use check::same;
-use libc::STDOUT_FILENO;
+use std::io;
+use std::io::Write;
 
 // Room for the bytes of a word of a line.
 pub(crate) const ROOM: usize = 256;
@@ -63,18 +64,13 @@ pub(crate) fn unhex(word: &[u8], out: &mut [u8; ROOM]) -> usize
     half
 }
 
-fn print_byte(b: u8) {
-    io::print_hex(STDOUT_FILENO, b as u64, 2);
-}
-
 // No bytes are written as -, as they are read.
-pub(crate) fn print_bytes(bytes: &[u8]) {
+pub(crate) fn print_bytes<W: Write>(out: &mut W, bytes: &[u8]) -> io::Result<()> {
     if bytes.len() == 0 {
-        io::write_all(STDOUT_FILENO, b"-");
+        out.write_all(b"-")?;
     }
-    let mut i = 0;
-    while i < bytes.len() {
-        print_byte(bytes[i]);
-        i += 1;
+    for b in bytes {
+        write!(out, "{b:02x}")?;
     }
+    Ok(())
 }

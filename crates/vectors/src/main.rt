@@ -2,15 +2,21 @@
 //     KIND INPUT EXPECTED
 // with bytes in lower-case hex, and - for no bytes. Writes each line whose answer is another, and how many there were.
 #![tactic(auto)]
+
 mod answers;
 mod hex;
 
-ghost use Rattle.std.specs.Prelude.{◌≤◌, length};
+ghost use Rattle.std.specs.Prelude.{◌≤◌, length, IfOk};
 
 use answers::answer;
 use check::same;
 use hex::{CHANGED, ROOM, print_bytes, unhex};
-use libc::{STDIN_FILENO, STDOUT_FILENO};
+use std::io;
+use std::io::{Read, Write};
+use streams::{print_decimal, read_full};
+
+// The most bytes of standard input.
+const INPUT: usize = 65536;
 
 // Where b first stands, from the given place on, or the text's length.
 fn find(text: &[u8], from: usize, b: u8) -> usize
@@ -28,71 +34,83 @@ fn find(text: &[u8], from: usize, b: u8) -> usize
 }
 
 // A line that cannot be read is a wrong one.
-fn malformed(line: &[u8]) -> bool {
-    io::write_all(STDOUT_FILENO, line);
-    io::write_all(STDOUT_FILENO, b" -> malformed\n");
-    false
+fn malformed<W: Write>(out: &mut W, line: &[u8]) -> io::Result<bool> {
+    out.write_all(line)?;
+    out.write_all(b" -> malformed\n")?;
+    Ok(false)
 }
 
 // A text that went past its end, or an answer that should have left the buffer alone.
-fn changed(line: &[u8]) -> bool {
-    io::write_all(STDOUT_FILENO, line);
-    io::write_all(
-        STDOUT_FILENO,
-        b" -> the buffer was changed behind the text\n",
-    );
-    false
+fn changed<W: Write>(out: &mut W, line: &[u8]) -> io::Result<bool> {
+    out.write_all(line)?;
+    out.write_all(b" -> the buffer was changed behind the text\n")?;
+    Ok(false)
+}
+
+fn differs<W: Write>(out: &mut W, line: &[u8], computed: &[u8]) -> io::Result<bool> {
+    out.write_all(line)?;
+    out.write_all(b" -> ")?;
+    print_bytes(out, computed)?;
+    out.write_all(b"\n")?;
+    Ok(false)
 }
 
 // Whether the computed answer is the one that the line's last word expects.
-fn is_expected(line: &[u8], word: &[u8], computed: &[u8]) -> bool {
+fn is_expected<W: Write>(
+    out: &mut W,
+    line: &[u8],
+    word: &[u8],
+    computed: &[u8],
+) -> io::Result<bool> {
     let mut expected = [0u8; ROOM];
     let n = unhex(word, &mut expected);
     if ROOM < n {
-        return malformed(line);
+        return malformed(out, line);
     }
     if same(&expected[0..n], computed) {
-        return true;
+        return Ok(true);
     }
-    io::write_all(STDOUT_FILENO, line);
-    io::write_all(STDOUT_FILENO, b" -> ");
-    print_bytes(computed);
-    io::write_all(STDOUT_FILENO, b"\n");
-    false
+    differs(out, line, computed)
 }
 
 // Whether the answer to the input is the expected one.
-fn is_answered(line: &[u8], kind: &[u8], input: &[u8], word: &[u8]) -> bool {
+fn is_answered<W: Write>(
+    out: &mut W,
+    line: &[u8],
+    kind: &[u8],
+    input: &[u8],
+    word: &[u8],
+) -> io::Result<bool> {
     let mut computed = [0u8; ROOM];
     let n = answer(kind, input, &mut computed);
     if n == CHANGED {
-        return changed(line);
+        return changed(out, line);
     }
     if ROOM < n {
-        return malformed(line);
+        return malformed(out, line);
     }
-    is_expected(line, word, &computed[0..n])
+    is_expected(out, line, word, &computed[0..n])
 }
 
 // A third space goes into the last word, which is then no hex.
-fn is_right(line: &[u8]) -> bool {
+fn is_right<W: Write>(out: &mut W, line: &[u8]) -> io::Result<bool> {
     let kind_end = find(line, 0, b' ');
     if kind_end == line.len() {
-        return malformed(line);
+        return malformed(out, line);
     }
     let start = kind_end + 1;
     let end = find(line, start, b' ');
     if end == line.len() {
-        return malformed(line);
+        return malformed(out, line);
     }
     let last = end + 1;
     // What stands behind the input would complete a character that is cut off.
     let mut input = [0x80u8; ROOM];
     let n = unhex(&line[start..end], &mut input);
     if ROOM < n {
-        return malformed(line);
+        return malformed(out, line);
     }
-    is_answered(line, &line[0..kind_end], &input[0..n], &line[last..])
+    is_answered(out, line, &line[0..kind_end], &input[0..n], &line[last..])
 }
 
 fn is_comment(line: &[u8]) -> bool {
@@ -109,54 +127,55 @@ struct Tally {
     wrong: u64,
 }
 
-fn counted(line: &[u8]) -> Tally
-    ensures { (result.compared ≤ 1) × (result.wrong ≤ 1) }
+fn counted<W: Write>(out: &mut W, line: &[u8]) -> io::Result<Tally>
+    ensures { IfOk result (λ t. (t.compared ≤ 1) × (t.wrong ≤ 1)) }
 {
     if is_comment(line) {
-        return Tally {
+        return Ok(Tally {
             compared: 0,
             wrong: 0,
-        };
+        });
     }
-    if is_right(line) {
-        return Tally {
+    if is_right(out, line)? {
+        return Ok(Tally {
             compared: 1,
             wrong: 0,
-        };
+        });
     }
-    Tally {
+    Ok(Tally {
         compared: 1,
         wrong: 1,
-    }
+    })
 }
 
-fn compare_lines(text: &[u8]) -> Tally {
+fn compare_lines<W: Write>(out: &mut W, text: &[u8]) -> io::Result<Tally> {
     let mut compared: u64 = 0;
     let mut wrong: u64 = 0;
     let mut start = 0;
     while start < text.len() {
         let end = find(text, start, b'\n');
-        let c = counted(&text[start..end]);
+        let c = counted(out, &text[start..end])?;
         compared += c.compared;
         wrong += c.wrong;
         start = end + 1;
     }
-    Tally {
-        compared: compared,
-        wrong: wrong,
-    }
+    Ok(Tally { compared, wrong })
 }
 
-fn main() {
-    let mut text = io::large_buffer();
-    let n = io::read_full(STDIN_FILENO, &mut text);
+fn compare_input<R: Read, W: Write>(input: &mut R, out: &mut W) -> io::Result<()> {
+    let mut text = [0u8; INPUT];
+    let n = read_full(input, &mut text)?;
     // A text that fills the buffer may have been cut.
-    if n == 65536 {
-        io::write_all(STDOUT_FILENO, b"too many vectors to read\n");
+    if n == INPUT {
+        out.write_all(b"too many vectors to read\n")?;
     }
-    let c = compare_lines(&text[..n]);
-    io::print_decimal(STDOUT_FILENO, c.compared);
-    io::write_all(STDOUT_FILENO, b" compared, ");
-    io::print_decimal(STDOUT_FILENO, c.wrong);
-    io::write_all(STDOUT_FILENO, b" wrong\n");
+    let c = compare_lines(out, &text[..n])?;
+    print_decimal(out, c.compared)?;
+    out.write_all(b" compared, ")?;
+    print_decimal(out, c.wrong)?;
+    out.write_all(b" wrong\n")
+}
+
+fn main(rt: HostRuntime) -> io::Result<()> {
+    compare_input(&mut rt.stdin(), &mut rt.stdout())
 }

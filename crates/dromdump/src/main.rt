@@ -1,7 +1,8 @@
 // What the reader says of the DROM on standard input.
 #![tactic(auto)]
-use libc::STDIN_FILENO;
 
-fn main() {
-    dump::dump(STDIN_FILENO);
+use std::io;
+
+fn main(rt: HostRuntime) -> io::Result<()> {
+    dump::dump(&mut rt.stdin(), &mut rt.stdout())
 }

@@ -1,49 +1,74 @@
-// Reads a DROM from a file descriptor and writes what the reader says of it to standard output: a line with the refusal and the
-// record count, and then a line a record. There is no list of adapters.
+// Reads a DROM and writes what the reader says of it: a line with the refusal and the record count, and then a line a record.
+// There is no list of adapters.
 #![tactic(auto)]
-use libc::STDOUT_FILENO;
+
+ghost use Rattle.std.specs.Prelude.{◌≡◌, drop, IfSome, OnOk};
+ghost use Rattle.std.specs.Io.KnownBytes.{Appends};
+ghost use Rattle.record.specs.Step.{head_in, record_size};
+ghost use Rattle.dump.specs.Lines.{verdict_line, head_line, head_lines, report_lines, input_lines};
+
+use drom::Report;
+use record::Head;
+use std::io;
+use std::io::{Read, Write};
 
 // The largest DROM has 4,108 bytes. One more is read, so that longer input is not taken for one.
 const MOST: usize = 4109;
 // Room for the records of any DROM.
 const ROOM: usize = 16368;
 
-fn print_word(n: usize, after: &[u8]) {
-    io::print_decimal(STDOUT_FILENO, n as u64);
-    io::write_all(STDOUT_FILENO, after);
+fn print_verdict<W: Write>(out: &mut W, number: u8, offset: usize, records: usize) -> io::Result<()>
+    ensures { OnOk result (Appends (W.contents out.old) (W.contents out.new) (verdict_line number offset records)) }
+{
+    writeln!(out, "refusal {number} at {offset} records {records}")
 }
 
-fn print_verdict(number: u8, offset: usize, records: usize) {
-    io::write_all(STDOUT_FILENO, b"refusal ");
-    print_word(number as usize, b" at ");
-    print_word(offset, b" records ");
-    print_word(records, b"\n");
+fn print_head<W: Write>(out: &mut W, bytes: &[u8]) -> io::Result<()>
+    ensures { OnOk result (Appends (W.contents out.old) (W.contents out.new) (head_line (head_in bytes.now))) }
+{
+    let Head {
+        tag,
+        offset,
+        length,
+    } = record::head_of(bytes);
+    writeln!(out, "{tag} {offset} {length}")
 }
 
-fn print_head(record: &[u8]) {
-    let head = record::head_of(record);
-    print_word(head.tag as usize, b" ");
-    print_word(head.offset, b" ");
-    print_word(head.length, b"\n");
+// What stands behind the first record. Where no record can stand at the front, these are all the bytes.
+#[tactic(auto, using(record::proofs::StepLaws::size_within))]
+fn after_record(bytes: &[u8]) -> &[u8]
+    ensures { result.now ≡ drop (record_size bytes.now) bytes.now }
+{
+    &bytes[record::record_length(bytes)..]
 }
 
-fn print_records(bytes: &[u8], count: usize) {
-    let mut at = 0;
-    let mut left = count;
-    while 0 < left {
-        let rest = &bytes[at..];
-        print_head(rest);
-        at += record::record_length(rest);
-        left -= 1;
+fn print_records<W: Write>(out: &mut W, bytes: &[u8], count: usize) -> io::Result<()>
+    ensures { OnOk result (Appends (W.contents out.old) (W.contents out.new) (head_lines count bytes.now)) }
+{
+    let mut rest = bytes;
+    for _ in 0..count {
+        print_head(out, rest)?;
+        rest = after_record(rest);
     }
+    Ok(())
 }
 
-// At most 4,109 bytes are read. What is read and written is the operating system's to say, so there is no contract.
-pub fn dump(input: i32) {
+fn print_report<W: Write>(out: &mut W, report: &Report, records: &[u8]) -> io::Result<()>
+    ensures { OnOk result (Appends (W.contents out.old) (W.contents out.new) (report_lines report.now records.now)) }
+{
+    print_verdict(out, report.number, report.offset, report.records)?;
+    print_records(out, records, report.records)
+}
+
+// At most 4,109 bytes are read. The clause speaks of a reader and a writer whose bytes are known. Those of standard input, of
+// standard output and of a file are the operating system's to say.
+pub fn dump<R: Read, W: Write>(input: &mut R, out: &mut W) -> io::Result<()>
+    ensures { OnOk result (IfSome (R.remaining input.old)
+        (λ bs. Appends (W.contents out.old) (W.contents out.new) (input_lines bs))) }
+{
     let mut bytes = [0u8; MOST];
-    let n = io::read_full(input, &mut bytes);
+    let n = streams::read_full(input, &mut bytes)?;
     let mut records = [0u8; ROOM];
     let report = drom::read(b"", &bytes[..n], &mut records);
-    print_verdict(report.number, report.offset, report.records);
-    print_records(&records, report.records);
+    print_report(out, &report, &records)
 }

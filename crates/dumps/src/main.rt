@@ -1,39 +1,46 @@
 // dromdump's output on one dump after the other, each under its name: document 01's example, every refusal of a whole DROM, the sizes
 // around the largest, and the sample dumps. data/ has the dumps.
 #![tactic(auto)]
-use libc::STDOUT_FILENO;
 
-fn show(name: &[u8]) {
-    io::write_all(STDOUT_FILENO, name);
-    io::write_all(STDOUT_FILENO, b":\n");
-    let file = os::open_read(name);
-    if file < 0 {
-        os::fail(name);
-        return;
+use std::io::Write;
+use std::rt::Files;
+use std::{fs, io};
+
+// A file that cannot be opened is told to standard error, and the next one has its turn.
+fn show(rt: &(impl Files + Print + Eprint), name: &str) -> io::Result<()> {
+    let mut out = io::writer(rt);
+    writeln!(out, "{name}:")?;
+    match fs::open(rt, name) {
+        Ok(mut file) => dump::dump(&mut file, &mut out),
+        Err(e) => eprintln!(rt; "{name}: {e}"),
     }
-    dump::dump(file);
-    libc::close(file);
 }
 
-fn main() {
-    show(b"example");
-    show(b"no-body");
-    show(b"empty");
-    show(b"refusal-1");
-    show(b"refusal-2");
-    show(b"refusal-3");
-    show(b"refusal-6");
-    show(b"refusal-7");
-    show(b"refusal-8");
-    show(b"refusal-9");
-    show(b"refusal-10");
-    show(b"refusal-11");
-    show(b"largest");
-    show(b"one-too-long");
-    show(b"much-too-long");
-    show(b"usb4-dock.bin");
-    show(b"thunderbolt3-dock.bin");
-    show(b"odd-serial.bin");
-    show(b"zero-length.bin");
-    show(b"stale-crc32.bin");
+fn main(rt: HostRuntime) -> io::Result<()> {
+    let names = [
+        "example",
+        "no-body",
+        "empty",
+        "refusal-1",
+        "refusal-2",
+        "refusal-3",
+        "refusal-6",
+        "refusal-7",
+        "refusal-8",
+        "refusal-9",
+        "refusal-10",
+        "refusal-11",
+        "largest",
+        "one-too-long",
+        "much-too-long",
+        "usb4-dock.bin",
+        "thunderbolt3-dock.bin",
+        "odd-serial.bin",
+        "zero-length.bin",
+        "stale-crc32.bin",
+    ];
+    for name in names {
+        show(&rt, name)?;
+    }
+    Ok(())
 }

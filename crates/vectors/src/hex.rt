@@ -64,13 +64,17 @@ pub(crate) fn unhex(word: &[u8], out: &mut [u8; ROOM]) -> usize
     half
 }
 
+fn print_byte<W: Write>(out: &mut W, b: u8) -> io::Result<()> {
+    write!(out, "{b:02x}")
+}
+
 // No bytes are written as -, as they are read.
 pub(crate) fn print_bytes<W: Write>(out: &mut W, bytes: &[u8]) -> io::Result<()> {
     if bytes.len() == 0 {
         out.write_all(b"-")?;
     }
     for b in bytes {
-        write!(out, "{b:02x}")?;
+        print_byte(out, *b)?;
     }
     Ok(())
 }

@@ -1,0 +1,2 @@
+-- The laws behind the promise of this crate.
+pub mod InputLaws

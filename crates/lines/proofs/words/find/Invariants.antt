@@ -1,0 +1,11 @@
+-- `lines::words::find` meets its contract. The invariant: the place lies between the first and the end.
+-- Assumes nothing.
+use Prim.Native.Nat.{◌≤◌, ◌-◌}
+use lib.ListN.{length}
+use Rattle.lines.proofs.words.find.Given as goal
+
+abbrev pub invariant-loop-i : goal.invariant-loop-i
+invariant-loop-i l = (l.from ≤ l.i) × (l.i ≤ length l.text)
+
+abbrev pub decreases-loop-i : goal.decreases-loop-i
+decreases-loop-i l = length l.text - l.i

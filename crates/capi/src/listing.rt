@@ -7,7 +7,7 @@ ghost use Rattle.capi.specs.Listing.{Reads};
 use super::reading::drom_read;
 use listed::{Adapter, Kinds};
 
-// By the kinds of a list: a function of its own, as the prover does not cover a slice of structs.
+// By the kinds of a list.
 fn read_with(kinds: Kinds, drom: &[u8], records: &mut [u8], report: &mut [u8]) -> u8
     ensures { Reads (pairs_from 0 kinds.of) drom.now records.old report.old result records.new report.new }
 {

@@ -84,7 +84,7 @@ build_driver() {
     util=$folder/src--src--util.rs.txt
     [ -r "$drom" ] && [ -r "$util" ] || stop 2 "no drom.rs and util.rs in $folder: RUST_TEXT names their folder"
     mkdir -p "$build"
-    sum=$(sum_of crates.txt crates)
+    sum=$(sum_of crates.txt crates bindings/library)
     if ! is_built ours "$sum"; then
         say "proving and building our library, which takes minutes"
         build_ours

@@ -1,4 +1,4 @@
--- `listed::pairs_of` meets its contract. The loop by what is left: the pairs in front, and those of the kinds from `i` on, are all pairs.
+-- `listed::pairs_of` meets its contract: a turn writes a pair, and at the end no kind is left.
 -- Assumes nothing.
 use Prim.Native.Nat.{◌+◌, ◌*◌, ◌<◌, ◌≤◌}
 use lib.ListN.{length}

@@ -1,5 +1,4 @@
--- `listed::pairs_of` meets its contract. The loop by what is left: the pairs in front, and those of the kinds from `i` on, are all pairs.
--- Assumes nothing.
+-- The loop of `pairs_of`: the pairs in front, and those of the kinds from `i` on, are all pairs. The measure is how many kinds are left.
 use mathlib.Core.Path.{◌≡◌}
 use mathlib.Core.List.{◌++◌}
 use Prim.Native.Nat.{◌-◌, ◌*◌, ◌≤◌}

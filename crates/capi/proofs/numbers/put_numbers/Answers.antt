@@ -1,5 +1,4 @@
--- `capi::put_numbers` meets its contract. The loop's invariant: all but the bytes of the numbers from `i` on is written.
--- The measure is how many numbers are left.
+-- `capi::put_numbers` meets its contract: a turn writes one number more, and at the end none is left.
 -- Assumes nothing.
 use mathlib.Core.Path.{◌≡◌, ◌∙◌}
 use native.Mathlib.Omega.{arith}

@@ -1,6 +1,4 @@
--- `capi::put_numbers` meets its contract. The loop's invariant: all but the bytes of the numbers from `i` on is written.
--- The measure is how many numbers are left.
--- Assumes nothing.
+-- The loop of `put_numbers`: all but the bytes of the numbers from `i` on is written. The measure is how many numbers are left.
 use Prim.Native.Nat.{◌-◌, ◌*◌, ◌≤◌}
 use mathlib.Core.Path.{◌≡◌}
 use lib.ListN.{length, drop}

@@ -1,5 +1,5 @@
--- `drom::parts::offset_from` meets its contract. The loop's invariant: the entry that is left to count from here on is the one asked for.
--- The measure is how many bytes are left. Assumes nothing.
+-- `drom::parts::offset_from` meets its contract: a turn passes an entry, and where none stands there is no offset.
+-- Assumes nothing.
 use mathlib.Core.Path.{sym, ap, ◌∙◌}
 use native.Mathlib.Omega.{arith}
 use Rattle.entry.specs.Adapters.{kind_in}

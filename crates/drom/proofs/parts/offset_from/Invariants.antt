@@ -1,5 +1,4 @@
--- `drom::parts::offset_from` meets its contract. The loop's invariant: the entry that is left to count from here on is the one asked for.
--- The measure is how many bytes are left. Assumes nothing.
+-- The loop of `offset_from`: the entry that is left to count from here on is the one asked for. The measure is how many bytes are left.
 use mathlib.Core.Path.{◌≡◌}
 use Prim.Native.Nat.{◌-◌, ◌≤◌}
 use lib.ListN.{length, drop}

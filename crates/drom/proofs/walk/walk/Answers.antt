@@ -1,5 +1,4 @@
--- `drom::walk::walk` meets its contract. The loop's invariant, `Going`: the entries passed so far have their records at the buffer's front, and
--- the rest of the walk is the one from here on. The measure is how many bytes are left.
+-- `drom::walk::walk` meets its contract: the laws of `Going` at each turn and each way out.
 -- Assumes nothing.
 use Rattle.drom.proofs.WalkTurns.{going_on}
 use mathlib.Core.Path.{sym, ◌∙◌}

@@ -1,6 +1,5 @@
--- `drom::walk::walk` meets its contract. The loop's invariant, `Going`: the entries passed so far have their records at the buffer's front, and
--- the rest of the walk is the one from here on. The measure is how many bytes are left.
--- Assumes nothing.
+-- The loop of `walk`, `Going`: the entries passed so far have their records at the buffer's front, and the rest of the walk is the one from
+-- here on. The measure is how many bytes are left.
 use Prim.Native.Nat.{◌-◌}
 use lib.ListN.{length}
 use Rattle.entry.specs.Adapters.{kind_in}

@@ -1,4 +1,4 @@
--- `entry::adapters::kind_in` meets its contract. The loop by what is left of the list: the kind from `i` on is the kind of the whole.
+-- `entry::adapters::kind_in` meets its contract: a turn passes an adapter of another number.
 -- Assumes nothing.
 use mathlib.Core.Path.{sym, ◌∙◌}
 use Prim.Native.Nat.{◌+◌, ◌<◌, ◌≤◌}

@@ -1,5 +1,4 @@
--- `entry::adapters::kind_in` meets its contract. The loop by what is left of the list: the kind from `i` on is the kind of the whole.
--- Assumes nothing.
+-- The loop of `kind_in`: the kind in what is left of the list, from `i` on, is the kind in the whole. The measure is how many bytes are left.
 use mathlib.Core.Path.{◌≡◌}
 use Prim.Native.Nat.{◌-◌, ◌≤◌}
 use lib.ListN.{length, drop}

@@ -1,4 +1,4 @@
--- `entry::parse::first_zero` meets its contract. The loop by what is left: `i` and the count from `i` on are the whole count.
+-- `entry::parse::first_zero` meets its contract: a turn passes a byte that is not zero.
 -- Assumes nothing.
 use native.Mathlib.Omega.{arith}
 use Rattle.entry.proofs.NameLaws.{zero_here, zero_later, zero_none}

@@ -1,5 +1,4 @@
--- `entry::parse::first_zero` meets its contract. The loop by what is left: `i` and the count from `i` on are the whole count.
--- Assumes nothing.
+-- The loop of `first_zero`: `i` and the count from `i` on are the whole count. The measure is how many bytes are left.
 use mathlib.Core.Path.{◌≡◌}
 use Prim.Native.Nat.{◌≤◌, ◌+◌, ◌-◌}
 use lib.ListN.{length, drop}

@@ -1,4 +1,4 @@
--- `feed::table_of` meets its contract: from the list's end, so that what was seen before is overwritten.
+-- `feed::table_of` meets its contract: a turn puts in one adapter more.
 -- Assumes nothing.
 use Rattle.feed.proofs.OpenLaws.{table_start, table_in, table_out}
 use Rattle.feed.proofs.feeding.table_of.Goals as goal

@@ -1,5 +1,5 @@
--- `feed::table_of` meets its contract: from the list's end, so that what was seen before is overwritten.
--- Assumes nothing.
+-- The loop of `table_of` goes from the list's end, so that what was seen before is overwritten: the table is that of the adapters
+-- from `i` on. The measure is `i`.
 use Rattle.feed.proofs.OpenLaws.{Tabled}
 use Rattle.feed.proofs.feeding.table_of.Given as goal
 

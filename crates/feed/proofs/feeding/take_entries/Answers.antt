@@ -1,4 +1,4 @@
--- `feed::take_entries` meets its contract: in the loop the entries so far lead where their bytes do, one by one.
+-- `feed::take_entries` meets its contract: an entry that the piece has whole goes along, one that is refused stops, and room is never wanting.
 -- Assumes nothing.
 use mathlib.Core.Path.{◌≡◌, sym, ap, ◌∙◌}
 use Prim.Native.Nat.{ℕ, ◌+◌, ◌-◌, ◌<◌, ◌≤◌}

@@ -1,5 +1,4 @@
--- `feed::take_entries` meets its contract: in the loop the entries so far lead where their bytes do, one by one.
--- Assumes nothing.
+-- The loop of `take_entries`, `Along`: the entries so far lead where their bytes do, one by one. The measure is how many bytes are left.
 use Prim.Native.Nat.{◌-◌}
 use lib.ListN.{length}
 use Rattle.feed.specs.Run.{run}

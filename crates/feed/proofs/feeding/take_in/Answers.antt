@@ -1,4 +1,4 @@
--- `feed::take_in` meets its contract: at each turn the rest of the piece leads where all of it led from the start.
+-- `feed::take_in` meets its contract: by each way through a turn, what is left leads to the same.
 -- Assumes nothing.
 use borrow.Author.Rules.{rules}
 use mathlib.Core.Path.{◌≡◌, sym, ap, ap₂, ◌∙◌}

@@ -1,5 +1,4 @@
--- `feed::take_in` meets its contract: at each turn the rest of the piece leads where all of it led from the start.
--- Assumes nothing.
+-- The loop of `take_in`, `Held`: the rest of the piece leads where all of it led from the start. The measure is how many bytes are left.
 use Prim.Native.Nat.{◌-◌}
 use lib.ListN.{length}
 use Rattle.feed.specs.Run.{run}

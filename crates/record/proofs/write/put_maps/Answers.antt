@@ -1,5 +1,4 @@
--- `record::put_maps` meets its contract. The loop's invariant: the maps before byte `i` are written, and the buffer is as long as lent.
--- The measure is how many bytes are left.
+-- `record::put_maps` meets its contract: a turn writes one map more, and at the end all are.
 -- Assumes nothing.
 use Prim.Native.Nat.{◌+◌}
 use mathlib.Core.List.{[], ◌∷◌}

@@ -1,5 +1,4 @@
--- `record::put_ranks` meets its contract. The loop's invariant: the ranks before byte `i` are written, and the buffer is as long as lent.
--- The measure is how many bytes are left.
+-- `record::put_ranks` meets its contract: a turn writes one rank more, and at the end all are.
 -- Assumes nothing.
 use native.Mathlib.Omega.{arith}
 use lib.ListN.{length-set, drop_of_length-le}

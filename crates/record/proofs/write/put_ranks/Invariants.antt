@@ -1,6 +1,4 @@
--- `record::put_ranks` meets its contract. The loop's invariant: the ranks before byte `i` are written, and the buffer is as long as lent.
--- The measure is how many bytes are left.
--- Assumes nothing.
+-- The loop of `put_ranks`: the ranks before byte `i` are written, and the buffer is as long as lent. The measure is how many bytes are left.
 use Prim.Native.Nat.{◌-◌, ◌≤◌}
 use mathlib.Core.Path.{◌≡◌}
 use lib.ListN.{length, drop}

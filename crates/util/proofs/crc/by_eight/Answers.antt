@@ -1,5 +1,5 @@
--- `by_eight` meets its contract. The loop's invariant: from the register so far, the bytes from `i` on come to what all come to from the
--- first register. A turn is `over_part`, the end `over_rest`. The measure is how many bytes are left. Assumes nothing.
+-- `by_eight` meets its contract: a turn takes eight bytes at once (`over_part`).
+-- Assumes nothing.
 use Rattle.std.proofs.Common.{◌+◌, arith, rules}
 use Rattle.util.specs.Crc.{byte_of32}
 use Rattle.util.proofs.CrcLaws.{over_part}

@@ -1,5 +1,5 @@
--- `by_eight` meets its contract. The loop's invariant: from the register so far, the bytes from `i` on come to what all come to from the
--- first register. A turn is `over_part`, the end `over_rest`. The measure is how many bytes are left. Assumes nothing.
+-- The loop of `by_eight`: from the register so far, the bytes from `i` on come to what all come to from the first register. The measure is
+-- how many bytes are left.
 use Rattle.std.proofs.Common.{◌≡◌, ◌-◌, ◌≤◌, length, drop}
 use Rattle.util.specs.Crc.{over, byte_of32}
 use Rattle.util.proofs.crc.by_eight.Given as goal

@@ -1,5 +1,5 @@
--- `crc8` meets its contract. The loop's invariant: from the register so far, the bytes from `i` on come to what all come to from FF.
--- The measure is how many bytes are left. Assumes nothing.
+-- `crc8` meets its contract: at the end no bytes are left.
+-- Assumes nothing.
 use Rattle.util.specs.Crc.{byte_of8, crc_of8}
 use Rattle.util.proofs.CrcLaws.{over_end}
 use Rattle.util.proofs.crc.crc8.Goals as goal

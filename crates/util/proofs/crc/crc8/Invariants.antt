@@ -1,5 +1,4 @@
--- `crc8` meets its contract. The loop's invariant: from the register so far, the bytes from `i` on come to what all come to from FF.
--- The measure is how many bytes are left. Assumes nothing.
+-- The loop of `crc8`: from the register so far, the bytes from `i` on come to what all come to from FF. The measure is how many bytes are left.
 use Rattle.std.proofs.Common.{◌≡◌, ◌-◌, ◌≤◌, length, drop}
 use Rattle.util.specs.Crc.{over, byte_of8}
 use Rattle.util.proofs.crc.crc8.Given as goal

@@ -1,4 +1,4 @@
--- `unit_at` meets its contract: two bytes are the first unit of what is left (`units_at`), and fewer are none (`units_none`).
+-- `unit_at` meets its contract: fewer than two bytes are no unit (`units_none`).
 -- Assumes nothing.
 use Rattle.std.proofs.Common.{ℕ, ◌+◌, ◌≤◌, List, length, get_or, sym, ap, arith}
 use Rattle.util.proofs.Units.{units_none}

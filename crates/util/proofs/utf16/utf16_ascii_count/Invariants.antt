@@ -1,5 +1,5 @@
--- `utf16_ascii_count` meets its contract. The loop's invariant is `Counting`: the count so far, and what is shown from `i` on, are the whole text's
--- length. The measure is how many bytes are left. Assumes nothing.
+-- The loop of `utf16_ascii_count`, `Counting`: the count so far, and what is shown from `i` on, are the whole text's length. The measure is how
+-- many bytes are left.
 use Rattle.std.proofs.Common.{◌-◌, length}
 use Rattle.util.proofs.Text.{Counting}
 use Rattle.util.proofs.utf16.utf16_ascii_count.Given as goal

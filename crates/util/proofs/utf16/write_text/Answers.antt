@@ -1,5 +1,5 @@
--- `write_text` meets its contract. The loop's invariant is `Writing`: what is written, and what is shown from `i` on, are the whole text, and the
--- rest of the buffer is as lent. The measure is how many bytes are left. Assumes nothing.
+-- `write_text` meets its contract: at the end nothing is left to show.
+-- Assumes nothing.
 use Rattle.std.proofs.Common.{arith}
 use Rattle.util.proofs.Text.{writing_end}
 use Rattle.util.proofs.utf16.write_text.Goals as goal

@@ -1,5 +1,5 @@
--- `write_text` meets its contract. The loop's invariant is `Writing`: what is written, and what is shown from `i` on, are the whole text, and the
--- rest of the buffer is as lent. The measure is how many bytes are left. Assumes nothing.
+-- The loop of `write_text`, `Writing`: what is written, and what is shown from `i` on, are the whole text, and the rest of the buffer is as lent.
+-- The measure is how many bytes are left.
 use Rattle.std.proofs.Common.{◌-◌, length}
 use Rattle.util.proofs.Text.{Writing}
 use Rattle.util.proofs.utf16.write_text.Given as goal

@@ -1,5 +1,5 @@
 -- `char_len` meets its contract: each return is one of the cases of proofs/Chars.antt.
--- `ek` is the place where a character of k bytes was ruled out, and `notk` says so. Assumes nothing.
+-- Assumes nothing.
 use Rattle.std.proofs.Common.{◌+◌, ◌≤◌, length, sym, ◌∙◌, arith}
 use Rattle.util.proofs.Chars.{ascii, not_ascii, char1, char2, char3, char4, end1, end2, end3, end4}
 use Rattle.util.proofs.utf8.char_len.Goals as goal

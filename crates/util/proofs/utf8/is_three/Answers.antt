@@ -1,4 +1,4 @@
--- `is_three` meets its contract: a return after row k puts the rows' answers so far into the definition. `sk` is the place where row k was refused.
+-- `is_three` meets its contract: a return after row k puts the rows' answers so far into the definition.
 -- Assumes nothing.
 use Rattle.util.specs.Utf8.{utf8_3}
 use Rattle.util.proofs.utf8.is_three.Goals as goal

@@ -1,4 +1,4 @@
--- `is_utf8` meets its contract. The loop's invariant: the bytes from `i` on are UTF-8 if and only if all are. The measure is what is left of the length.
+-- `is_utf8` meets its contract: at the end no bytes are left, and these are UTF-8.
 -- Assumes nothing.
 use Rattle.std.proofs.Common.{sym, ap, ◌∙◌, drop_of_length-le}
 use Rattle.util.specs.Utf8.{is_utf8}

@@ -1,5 +1,4 @@
--- `is_utf8` meets its contract. The loop's invariant: the bytes from `i` on are UTF-8 if and only if all are. The measure is what is left of the length.
--- Assumes nothing.
+-- The loop of `is_utf8`: the bytes from `i` on are UTF-8 if and only if all are. The measure is what is left of the length.
 use Rattle.std.proofs.Common.{◌≡◌, ◌-◌, ◌≤◌, length, drop}
 use Rattle.util.specs.Utf8.{is_utf8}
 use Rattle.util.proofs.utf8.is_utf8.Given as goal

@@ -2,4 +2,5 @@
 pub mod Examples
 pub mod LawsFields
 pub mod LawsFront
+pub mod LittleEndian
 pub mod OneAnswer

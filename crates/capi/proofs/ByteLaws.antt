@@ -1,14 +1,10 @@
 -- Numbers to bytes and back, over the width.
 -- Assumes nothing.
-use Prim.Native.Nat.{ℕ, zero, suc, ◌+◌, ◌*◌, ◌/◌, ◌%◌, ◌<◌, ◌≤◌}
-use mathlib.Core.List.{List, [], ◌∷◌, ◌++◌, append-nil}
-use mathlib.Core.Path.{◌≡◌, refl, sym, ap, ap₂, ◌∙◌}
-use native.Mathlib.Nat.{add-zero}
-use native.Mathlib.Numerals.{add-one}
-use native.Mathlib.Omega.{arith}
-use lib.ListN.{length, get_or, drop, length-drop, length-append}
-use lib.Seq.{drop-cons, drop-length, length-take-le}
-use Rattle.bits.specs.Bits.{Bytes, le4, le8}
+use Rattle.std.proofs.Common.{◌≡◌, ℕ, zero, suc, ◌+◌, ◌*◌, ◌/◌, ◌%◌, ◌<◌, ◌≤◌, List, [], ◌∷◌, ◌++◌, append_assoc, append-nil, length, get_or, take, drop, refl, sym, ap, ap₂, ◌∙◌, add-zero, arith, suc-add, length-append, length-drop, drop-cons, w32, w64}
+use lib.Seq.{drop-length, length-take-le, take_all}
+use Rattle.std.proofs.Math.Nat.{div-div-eq-div-mul}
+use Rattle.std.specs.Int.{to_le_bytes, from_le_bytes}
+use Rattle.bits.specs.Bits.{Bytes}
 use Rattle.bits.specs.Front.{Put}
 use Rattle.bits.proofs.LawsFields.{part_bytes}
 use Rattle.bits.proofs.LawsFront.{fitted}
@@ -21,16 +17,23 @@ unfolding le
 le_length zero n = refl
 le_length (suc width) n = ap suc (le_length width (n / 256))
 
+-- as the library writes it
+pub le_four : (n : ℕ) → to_le_bytes w32 n ≡ le 4 n
+unfolding le
+le_four n = simp div-div-eq-div-mul
+
+pub le_eight : (n : ℕ) → to_le_bytes w64 n ≡ le 8 n
+unfolding le
+le_eight n = simp div-div-eq-div-mul
+
 -- ---- the bytes of numbers
 
-pub numbers_next : (ns : List ℕ) (i : ℕ) → i < length ns
-    → numbers_bytes (drop i ns) ≡ le 8 (get_or ns i 0) ++ numbers_bytes (drop (i + 1) ns)
+pub numbers_more : (ns : List ℕ) (i : ℕ) → i < length ns → numbers_bytes (take (i + 1) ns) ≡ numbers_bytes (take i ns) ++ le 8 (get_or ns i 0)
 unfolding numbers_bytes
-numbers_next ns i h = rw (add-one i, drop-cons ns i 0 h)
-
-pub numbers_none : numbers_bytes [] ≡ []
-unfolding numbers_bytes
-numbers_none = refl
+numbers_more [] i h = absurd (omega arith)
+numbers_more (n ∷ ns) zero h = append-nil (le 8 n)
+numbers_more (n ∷ ns) (suc i) h =
+    rw suc-add (ap (λ bytes. le 8 n ++ bytes) (numbers_more ns i (omega arith)) ∙ sym (append_assoc (le 8 n) (numbers_bytes (take i ns)) (le 8 (get_or ns i 0))))
 
 pub numbers_length : (ns : List ℕ) → length (numbers_bytes ns) ≡ 8 * length ns
 unfolding numbers_bytes
@@ -51,18 +54,21 @@ number_spelled at i (suc width) bytes h =
     let next : suc (at + i) ≡ at + suc i = omega arith in
     rw (drop-cons bytes (at + i) 0 (omega arith), next, number_spelled at (suc i) width bytes (omega arith))
 
--- one byte, and four and eight as the code reads them
-module _ (at : ℕ) (bytes : List ℕ) where
-  pub number_one : at + 1 ≤ length bytes → get_or bytes at 0 ≡ number_at at 1 bytes
-  number_one h = omega (arith, simp add-zero at (number_spelled at 0 1 bytes (omega arith)))
+-- one byte, and four and eight as the library makes a number of them
+pub number_one : (at : ℕ) (bytes : List ℕ) → at + 1 ≤ length bytes → get_or bytes at 0 ≡ number_at at 1 bytes
+number_one at bytes h = omega (arith, simp add-zero at (number_spelled at 0 1 bytes (omega arith)))
 
-  pub number_four : at + 4 ≤ length bytes
-      → le4 (get_or bytes at 0) (get_or bytes (at + 1) 0) (get_or bytes (at + 2) 0) (get_or bytes (at + 3) 0) ≡ number_at at 4 bytes
-  number_four h = omega (arith, simp add-zero at (number_spelled at 0 4 bytes (omega arith)))
+number_all : (bs : List ℕ) (width : ℕ) → length bs ≡ width → number bs ≡ spelled 0 0 width bs
+number_all bs width e = ap number (sym (take_all width bs (omega arith))) ∙ number_spelled 0 0 width bs (omega arith)
 
-  pub number_eight : at + 8 ≤ length bytes
-      → le8 (get_or bytes at 0) (get_or bytes (at + 1) 0) (get_or bytes (at + 2) 0) (get_or bytes (at + 3) 0) (get_or bytes (at + 4) 0) (get_or bytes (at + 5) 0) (get_or bytes (at + 6) 0) (get_or bytes (at + 7) 0) ≡ number_at at 8 bytes
-  number_eight h = omega (arith, simp add-zero at (number_spelled at 0 8 bytes (omega arith)))
+part_long : (at width : ℕ) (bytes : List ℕ) → at + width ≤ length bytes → length (part at width bytes) ≡ width
+part_long at width bytes h = length-take-le width (drop at bytes) (omega (arith, length-drop at bytes))
+
+pub number_four : (at : ℕ) (bytes : List ℕ) → at + 4 ≤ length bytes → from_le_bytes w32 (part at 4 bytes) ≡ number_at at 4 bytes
+number_four at bytes h = omega (arith, number_all (part at 4 bytes) 4 (part_long at 4 bytes h))
+
+pub number_eight : (at : ℕ) (bytes : List ℕ) → at + 8 ≤ length bytes → from_le_bytes w64 (part at 8 bytes) ≡ number_at at 8 bytes
+number_eight at bytes h = omega (arith, number_all (part at 8 bytes) 8 (part_long at 8 bytes h))
 
 -- ---- and back
 
@@ -78,8 +84,7 @@ le_number (b ∷ bs) k =
 
 pub le_part : (bytes : List ℕ) → Bytes bytes → (at width : ℕ) → at + width ≤ length bytes → le width (number_at at width bytes) ≡ part at width bytes
 le_part bytes k at width h =
-    let n : length (part at width bytes) ≡ width = length-take-le width (drop at bytes) (omega (arith, length-drop at bytes)) in
-    ap (λ (w : ℕ). le w (number (part at width bytes))) (sym n) ∙ le_number (part at width bytes) (part_bytes bytes width at k)
+    ap (λ (w : ℕ). le w (number (part at width bytes))) (sym (part_long at width bytes h)) ∙ le_number (part at width bytes) (part_bytes bytes width at k)
 
 -- ---- a whole table
 

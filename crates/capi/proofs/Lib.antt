@@ -3,7 +3,6 @@ pub mod ByteLaws
 pub mod StateLaws
 pub mod Examples
 pub mod PlaceLaws
-pub mod ListingLaws
 pub mod OneAnswer
 pub mod Stays
 pub mod AnyState

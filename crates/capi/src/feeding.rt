@@ -1,14 +1,28 @@
 // Feeding a DROM in pieces, the state in bytes that C and Rust lend.
-ghost use Rattle.std.specs.Prelude.{◌≡◌, cond, ◌+◌, ◌≤◌, length};
+ghost use Rattle.std.specs.Prelude.{◌≡◌, cond, ◌+◌, ◌++◌, ◌≤◌, length};
 ghost use Rattle.bits.specs.Front.{onto, Wrote};
 ghost use Rattle.feed.specs.Feed.{state_of};
 ghost use Rattle.capi.specs.Bytes.{part, number_at};
 ghost use Rattle.capi.specs.State.{state_size, core_bytes, state_bytes, core_in, state_in};
 ghost use Rattle.capi.specs.Calls.{no_state, open_answer, open_state, open_next, feed_answer, feed_state, feed_records, feed_next, finish_answer, finish_report, count_answer, bytes_answer};
 
-use super::numbers::{eight_at, four_at, put_four, put_numbers};
-use super::reading::put_report;
+use super::NO_ROOM;
+use super::numbers::{eight_at, four_at, part_at, put_numbers};
+use super::reading::{REPORT_SIZE, put_report};
 use feed::{Core, State};
+
+// Where a state's parts stand in its bytes: six numbers of eight bytes each, and then these.
+const REGISTER: usize = 48;
+
+const REFUSAL: usize = 52;
+
+const HEADER: usize = 53;
+
+const PENDING: usize = 69;
+
+const KINDS: usize = 324;
+
+const STATE_SIZE: usize = 388;
 
 fn put_core(c: Core, out: &mut [u8]) -> usize
     requires { 53 ≤ length out.old }
@@ -23,8 +37,8 @@ fn put_core(c: Core, out: &mut [u8]) -> usize
         c.written as u64,
     ];
     put_numbers(&numbers, out);
-    put_four(c.register as u64, &mut out[48..]);
-    52 + bits::put1(c.refusal, &mut out[52..])
+    bits::put_all(&c.register.to_le_bytes(), &mut out[REGISTER..]);
+    REFUSAL + bits::put([c.refusal], &mut out[REFUSAL..])
 }
 
 // The 388 bytes of a state, from which the same state is read again.
@@ -34,22 +48,12 @@ fn put_state(s: State, out: &mut [u8]) -> usize
     ensures back { state_in out.new ≡ s }
 {
     put_core(s.core, out);
-    bits::put_all(&s.header, &mut out[53..]);
-    bits::put_all(&s.pending, &mut out[69..]);
-    324 + bits::put_all(&s.kinds, &mut out[324..])
+    bits::put_all(&s.header, &mut out[HEADER..]);
+    bits::put_all(&s.pending, &mut out[PENDING..]);
+    KINDS + bits::put_all(&s.kinds, &mut out[KINDS..])
 }
 
-// What a feed changes of a state: all but the kinds, which stay where they are.
-fn put_changed(core: Core, header: &[u8; 16], pending: &[u8; 255], out: &mut [u8])
-    requires { state_size ≤ length out.old }
-    ensures bytes { out.new ≡ onto (state_bytes (state_of core header.now pending.now (part 324 64 out.old))) out.old }
-    ensures back { state_in out.new ≡ state_of core header.now pending.now (part 324 64 out.old) }
-{
-    put_core(core, out);
-    bits::put_all(header, &mut out[53..]);
-    bits::put_all(pending, &mut out[69..]);
-}
-
+// Here and in the next two the 388 bytes are asked for. The definitions speak of a longer slice too, so that an array is no plainer.
 fn core_in(bytes: &[u8]) -> Core
     requires { state_size ≤ length bytes.now }
     ensures { result ≡ core_in bytes.now }
@@ -57,40 +61,13 @@ fn core_in(bytes: &[u8]) -> Core
     Core {
         announced: eight_at(bytes, 0),
         taken: eight_at(bytes, 8),
-        refusal: bytes[52],
+        refusal: bytes[REFUSAL],
         offset: eight_at(bytes, 16),
-        register: four_at(bytes, 48),
+        register: four_at(bytes, REGISTER),
         fill: eight_at(bytes, 24),
         count: eight_at(bytes, 32),
         written: eight_at(bytes, 40),
     }
-}
-
-fn header_in(bytes: &[u8]) -> [u8; 16]
-    requires { state_size ≤ length bytes.now }
-    ensures { result ≡ part 53 16 bytes.now }
-{
-    let mut header = [0u8; 16];
-    bits::put_all(&bytes[53..69], &mut header);
-    header
-}
-
-fn pending_in(bytes: &[u8]) -> [u8; 255]
-    requires { state_size ≤ length bytes.now }
-    ensures { result ≡ part 69 255 bytes.now }
-{
-    let mut pending = [0u8; 255];
-    bits::put_all(&bytes[69..324], &mut pending);
-    pending
-}
-
-fn kinds_in(bytes: &[u8]) -> [u8; 64]
-    requires { state_size ≤ length bytes.now }
-    ensures { result ≡ part 324 64 bytes.now }
-{
-    let mut kinds = [0u8; 64];
-    bits::put_all(&bytes[324..388], &mut kinds);
-    kinds
 }
 
 fn state_in(bytes: &[u8]) -> State
@@ -99,9 +76,9 @@ fn state_in(bytes: &[u8]) -> State
 {
     State {
         core: core_in(bytes),
-        header: header_in(bytes),
-        pending: pending_in(bytes),
-        kinds: kinds_in(bytes),
+        header: part_at(bytes, HEADER),
+        pending: part_at(bytes, PENDING),
+        kinds: part_at(bytes, KINDS),
     }
 }
 
@@ -112,8 +89,8 @@ pub fn drom_open(list: &[u8], announced: usize, records: &[u8], state: &mut [u8]
     ensures state { state.new ≡ open_state list.now announced records.now state.old }
     ensures next { state_in state.new ≡ open_next list.now announced records.now state.old }
 {
-    if state.len() < 388 {
-        return 255;
+    if state.len() < STATE_SIZE {
+        return NO_ROOM;
     }
     let s = feed::open(list, announced, records);
     put_state(s, state);
@@ -128,16 +105,13 @@ pub fn drom_feed(state: &mut [u8], piece: &[u8], records: &mut [u8]) -> u8
     ensures records { records.new ≡ feed_records state.old piece.now records.old }
     ensures next { state_in state.new ≡ feed_next state.old piece.now records.old }
 {
-    if state.len() < 388 {
-        return 255;
+    if state.len() < STATE_SIZE {
+        return NO_ROOM;
     }
-    let core = core_in(state);
-    let mut header = header_in(state);
-    let mut pending = pending_in(state);
-    let kinds = kinds_in(state);
-    let fed = feed::feed_in_place(core, &mut header, &mut pending, &kinds, piece, records);
-    put_changed(fed.core, &header, &pending, state);
-    fed.number
+    let mut s = state_in(state);
+    let fed = feed::feed_in_place(&mut s, piece, records);
+    put_state(s, state);
+    entry::answer_number(fed)
 }
 
 // The report's number, and its 96 bytes at the front of report. 255 for a state of fewer than 388 bytes or a report of fewer than 96,
@@ -146,11 +120,8 @@ pub fn drom_finish(state: &[u8], report: &mut [u8]) -> u8
     ensures answer { result ≡ finish_answer state.now report.old }
     ensures report { report.new ≡ finish_report state.now report.old }
 {
-    if state.len() < 388 {
-        return 255;
-    }
-    if report.len() < 96 {
-        return 255;
+    if state.len() < STATE_SIZE || report.len() < REPORT_SIZE {
+        return NO_ROOM;
     }
     let s = state_in(state);
     let r = feed::finish(s);
@@ -158,12 +129,12 @@ pub fn drom_finish(state: &[u8], report: &mut [u8]) -> u8
     r.number
 }
 
-// A number of a state, and 0 for fewer than 388 bytes.
+// A number of a state, and 0 for fewer than 388 bytes, as the C interface has it.
 fn state_number(state: &[u8], at: usize) -> usize
     requires { at + 8 ≤ state_size }
     ensures { result ≡ cond (no_state state.now) 0 (number_at at 8 state.now) }
 {
-    if state.len() < 388 {
+    if state.len() < STATE_SIZE {
         return 0;
     }
     eight_at(state, at)

@@ -8,7 +8,7 @@ ghost use Rattle.util.specs.Utf16.{utf16_answer, utf16_leaves};
 ghost use Rattle.util.specs.Utf8.{is_utf8};
 ghost use Rattle.capi.specs.Numbers.{utf16_number};
 
-use util::Utf16Ascii;
+use util::Utf16Error;
 
 mod feeding;
 mod listing;
@@ -20,6 +20,9 @@ pub use feeding::{drom_feed, drom_finish, drom_open, drom_record_bytes, drom_rec
 pub use listing::drom_read_listed;
 pub use parts::{drom_body, drom_entry, drom_header, drom_whole};
 pub use reading::drom_read;
+
+// The answer where a report, a state or a place is lent too few bytes. A number, as the C interface has it.
+const NO_ROOM: u8 = 255;
 
 pub fn drom_crc8(bytes: &[u8]) -> u8
     ensures { result ≡ crc_of8 bytes.now }
@@ -41,15 +44,15 @@ pub fn drom_crc32_more(register: u32, bytes: &[u8]) -> u32
 }
 
 // How many bytes of text stand at the front of out; 2^64 - 1 for an odd count of bytes, 2^64 - 2 for too little room,
-// and then out is as lent.
+// and then out is as lent. Numbers, as the C interface has them.
 pub fn drom_utf16_ascii(bytes: &[u8], out: &mut [u8]) -> usize
     ensures answer { result ≡ utf16_number (utf16_answer bytes.now (length out.old)) }
     ensures buffer { out.new ≡ utf16_leaves bytes.now out.old }
 {
     match util::bytes_to_utf16_ascii(bytes, out) {
-        Utf16Ascii::Written(n) => n,
-        Utf16Ascii::OddLength => 0xffff_ffff_ffff_ffff,
-        Utf16Ascii::NoRoom => 0xffff_ffff_ffff_fffe,
+        Ok(n) => n,
+        Err(Utf16Error::OddLength) => 0xffff_ffff_ffff_ffff,
+        Err(Utf16Error::NoRoom) => 0xffff_ffff_ffff_fffe,
     }
 }
 
@@ -57,5 +60,5 @@ pub fn drom_utf16_ascii(bytes: &[u8], out: &mut [u8]) -> usize
 pub fn drom_is_utf8(bytes: &[u8]) -> u8
     ensures { result ≡ flag (is_utf8 bytes.now) }
 {
-    if util::is_utf8(bytes) { 1 } else { 0 }
+    u8::from(util::is_utf8(bytes))
 }

@@ -1,19 +1,10 @@
 // Reading a whole DROM whose adapters are lent as records of two bytes each: number and kind.
 ghost use Rattle.std.specs.Prelude.{◌≡◌};
-ghost use Rattle.listed.specs.Pairs.{pairs_of, pairs_from};
+ghost use Rattle.listed.specs.Pairs.{pairs_of};
 ghost use Rattle.capi.specs.Calls.{read_answer, read_records, read_report};
-ghost use Rattle.capi.specs.Listing.{Reads};
 
 use super::reading::drom_read;
-use listed::{Adapter, Kinds};
-
-// By the kinds of a list.
-fn read_with(kinds: Kinds, drom: &[u8], records: &mut [u8], report: &mut [u8]) -> u8
-    ensures { Reads (pairs_from 0 kinds.of) drom.now records.old report.old result records.new report.new }
-{
-    let pairs = listed::pairs_of(kinds);
-    drom_read(&pairs, drom, records, report)
-}
+use listed::Adapter;
 
 // What `drom_read` answers and leaves for the adapters' bytes.
 pub fn drom_read_listed(list: &[Adapter], drom: &[u8], records: &mut [u8], report: &mut [u8]) -> u8
@@ -21,6 +12,6 @@ pub fn drom_read_listed(list: &[Adapter], drom: &[u8], records: &mut [u8], repor
     ensures records { records.new ≡ read_records (pairs_of list.now) drom.now records.old report.old }
     ensures report { report.new ≡ read_report (pairs_of list.now) drom.now records.old report.old }
 {
-    let kinds = listed::kinds_of(list);
-    read_with(kinds, drom, records, report)
+    let pairs = listed::pairs_of(listed::kinds_of(list));
+    drom_read(&pairs, drom, records, report)
 }

@@ -4,8 +4,11 @@ ghost use Rattle.bits.specs.Front.{Wrote};
 ghost use Rattle.capi.specs.Report.{report_size, report_bytes};
 ghost use Rattle.capi.specs.Calls.{read_answer, read_records, read_report};
 
-use super::numbers::{as_number, put_numbers};
+use super::NO_ROOM;
+use super::numbers::put_numbers;
 use drom::Report;
+
+pub(crate) const REPORT_SIZE: usize = 96;
 
 // The 96 bytes of a report.
 pub(crate) fn put_report(r: Report, out: &mut [u8]) -> usize
@@ -13,16 +16,16 @@ pub(crate) fn put_report(r: Report, out: &mut [u8]) -> usize
     ensures { Wrote (report_bytes r) out.old out.new result }
 {
     let numbers = [
-        r.number as u64,
+        u64::from(r.number),
         r.offset as u64,
-        r.version as u64,
+        u64::from(r.version),
         r.length as u64,
         r.start as u64,
-        r.crc32 as u64,
-        as_number(r.crc32good),
-        r.crc8 as u64,
+        u64::from(r.crc32),
+        u64::from(r.crc32good),
+        u64::from(r.crc8),
         r.uuid,
-        as_number(r.crc8good),
+        u64::from(r.crc8good),
         r.records as u64,
         r.bytes as u64,
     ];
@@ -36,8 +39,8 @@ pub fn drom_read(list: &[u8], drom: &[u8], records: &mut [u8], report: &mut [u8]
     ensures records { records.new ≡ read_records list.now drom.now records.old report.old }
     ensures report { report.new ≡ read_report list.now drom.now records.old report.old }
 {
-    if report.len() < 96 {
-        return 255;
+    if report.len() < REPORT_SIZE {
+        return NO_ROOM;
     }
     let r = drom::read(list, drom, records);
     put_report(r, report);

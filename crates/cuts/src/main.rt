@@ -12,22 +12,23 @@ mod whole;
 ghost use Rattle.std.specs.Prelude.{◌+◌, ◌≤◌, length, IfOk};
 ghost use Rattle.cuts.specs.Counts.{OfOneLine};
 
-use check::same;
-use drom::Report;
-use lines::input::{INPUT, room};
-use lines::words::{find, is_comment, unhex, word};
+use feedings::{among_empty, in_pieces, in_two};
+use lines::input::read_text;
+use lines::words::{is_comment, unhex, word};
 use std::io;
 use std::io::{Read, Write};
-use streams::{print_decimal, read_full};
-use whole::{ENOUGH, LENT, is_left_in_pieces, is_left_in_two, is_left_over_structs};
+use std::ops::AddAssign;
+use whole::{Case, ENOUGH, LENT};
 
-// The most bytes of a list and of a DROM.
+// The most bytes of standard input, of a list and of a DROM. Memory is of a fixed size: no function allocates.
+const INPUT: usize = 262144;
+
 const LIST: usize = 256;
 
 const DROM: usize = 4200;
 
 // How many DROMs, feedings and readings over structs were compared, and how many of these differed.
-#[derive(Drop)]
+#[derive(Clone, Copy, Default)]
 struct Tally {
     droms: u64,
     feedings: u64,
@@ -35,254 +36,161 @@ struct Tally {
     differ: u64,
 }
 
+// No text has so many lines that a count stops at its type's end. Plain sums would need a bound that lasts over the loop below, and
+// the check takes no invariant at a loop over `split_inclusive` in a generic function.
+impl AddAssign for Tally {
+    fn add_assign(&mut self, other: Tally) {
+        self.droms = self.droms.saturating_add(other.droms);
+        self.feedings = self.feedings.saturating_add(other.feedings);
+        self.readings = self.readings.saturating_add(other.readings);
+        self.differ = self.differ.saturating_add(other.differ);
+    }
+}
+
 // Writes a difference, of the feeding that `what` and `n` name, and counts it.
-fn counted<W: Write>(out: &mut W, line: u64, what: &[u8], n: usize, agrees: bool) -> io::Result<u64>
+fn counted<W: Write>(out: &mut W, line: u64, what: &str, n: usize, agrees: bool) -> io::Result<u64>
     ensures { IfOk result (λ count. count ≤ 1) }
 {
     if agrees {
         return Ok(0);
     }
-    out.write_all(b"line ")?;
-    print_decimal(out, line)?;
-    out.write_all(what)?;
-    print_decimal(out, n as u64)?;
-    out.write_all(b" differs\n")?;
+    writeln!(out, "line {line}: {what} {n} differs")?;
     Ok(1)
 }
 
 // How many cuts in two differ.
-fn cuts<W: Write>(
-    out: &mut W,
-    line: u64,
-    list: &[u8],
-    drom: &[u8],
-    report: Report,
-    whole: &[u8],
-) -> io::Result<u64>
-    ensures { IfOk result (λ differ. differ ≤ length drom.now + 1) }
+fn cuts<W: Write>(out: &mut W, case: &Case) -> io::Result<u64>
+    ensures { IfOk result (λ differ. differ ≤ length case.now.fed.now + 1) }
 {
+    let list = case.list;
+    let fed = case.fed;
     let mut differ: u64 = 0;
-    let mut cut = 0;
-    while cut <= drom.len() {
-        let agrees = is_left_in_two(list, drom, cut, report, whole);
-        differ += counted(out, line, b": cut at ", cut, agrees)?;
-        cut += 1;
+    for cut in 0..=fed.len() {
+        let agrees = case.is_left_by(|records| in_two(list, fed, cut, records));
+        differ += counted(out, case.line, "cut at", cut, agrees)?;
     }
     Ok(differ)
 }
 
 // How many of the three feedings in pieces differ.
-fn pieces<W: Write>(
-    out: &mut W,
-    line: u64,
-    list: &[u8],
-    drom: &[u8],
-    report: Report,
-    whole: &[u8],
-) -> io::Result<u64>
+fn pieces<W: Write>(out: &mut W, case: &Case) -> io::Result<u64>
     ensures { IfOk result (λ differ. differ ≤ 3) }
 {
-    let bytes = is_left_in_pieces(list, drom, 1, false, report, whole);
-    let among = is_left_in_pieces(list, drom, 1, true, report, whole);
-    let larger = is_left_in_pieces(list, drom, 64, false, report, whole);
-    let first = counted(out, line, b": pieces of ", 1, bytes)?;
-    let second = counted(out, line, b": among empty pieces, pieces of ", 1, among)?;
-    let third = counted(out, line, b": pieces of ", 64, larger)?;
+    let list = case.list;
+    let fed = case.fed;
+    let line = case.line;
+    let bytes = case.is_left_by(|records| in_pieces(list, fed, 1, records));
+    let among = case.is_left_by(|records| among_empty(list, fed, records));
+    let larger = case.is_left_by(|records| in_pieces(list, fed, 64, records));
+    let first = counted(out, line, "pieces of", 1, bytes)?;
+    let second = counted(out, line, "among empty pieces, pieces of", 1, among)?;
+    let third = counted(out, line, "pieces of", 64, larger)?;
     Ok(first + second + third)
 }
 
 // A list of odd length is no list of structs.
-fn readings(list: &[u8]) -> u64
-    ensures { result ≤ 1 }
-{
-    if list.len() % 2 == 0 { 1 } else { 0 }
+fn is_of_structs(list: &[u8]) -> bool {
+    list.len() % 2 == 0
 }
 
-fn over_structs<W: Write>(
-    out: &mut W,
-    line: u64,
-    list: &[u8],
-    drom: &[u8],
-    report: Report,
-    whole: &[u8],
-) -> io::Result<u64>
-    requires { length list.now ≤ 256 }
+// How many readings over structs differ.
+fn over_structs<W: Write>(out: &mut W, case: &Case) -> io::Result<u64>
     ensures { IfOk result (λ differ. differ ≤ 1) }
 {
-    if readings(list) == 0 {
+    let list = case.list;
+    let fed = case.fed;
+    if !is_of_structs(list) {
         return Ok(0);
     }
-    let agrees = is_left_over_structs(list, drom, report, whole);
-    counted(
-        out,
-        line,
-        b": structs, of which there are ",
-        list.len() / 2,
-        agrees,
-    )
+    let agrees = case.is_left_by(|records| structs::read_structs(list, fed, records));
+    let count = list.len() / 2;
+    counted(out, case.line, "structs, of which there are", count, agrees)
 }
 
-// What the feedings of `fed` leave, against what the reading of `drom` does.
-fn compare<W: Write>(
-    out: &mut W,
-    line: u64,
-    list: &[u8],
-    drom: &[u8],
-    fed: &[u8],
-) -> io::Result<Tally>
-    requires { (length list.now ≤ 256) × (length fed.now ≤ 4200) }
+// What the other ways leave, against what the reading of the whole does.
+fn compare<W: Write>(out: &mut W, case: &Case) -> io::Result<Tally>
+    requires { length case.now.fed.now ≤ 4200 }
     ensures { IfOk result (λ t. OfOneLine t) }
 {
-    let mut whole = [LENT; ENOUGH];
-    let report = drom::read(list, drom, &mut whole);
-    let in_two = cuts(out, line, list, fed, report, &whole)?;
-    let in_pieces = pieces(out, line, list, fed, report, &whole)?;
-    let structs = over_structs(out, line, list, fed, report, &whole)?;
+    let in_two = cuts(out, case)?;
+    let in_pieces = pieces(out, case)?;
+    let structs = over_structs(out, case)?;
     Ok(Tally {
         droms: 1,
-        feedings: fed.len() as u64 + 4,
-        readings: readings(list),
+        feedings: case.fed.len() as u64 + 4,
+        readings: u64::from(is_of_structs(case.list)),
         differ: in_two + in_pieces + structs,
     })
 }
 
-fn smaller(a: usize, b: usize) -> usize
-    ensures { (result ≤ a) × (result ≤ b) }
-{
-    if a < b { a } else { b }
-}
-
-// A line that cannot be read differs.
+// A line that cannot be read differs. What a line adds is bounded here and in two more; the sum over lines is not, so that the bound is
+// no invariant of the type.
 fn malformed<W: Write>(out: &mut W, line: u64) -> io::Result<Tally>
     ensures { IfOk result (λ t. OfOneLine t) }
 {
-    out.write_all(b"line ")?;
-    print_decimal(out, line)?;
-    out.write_all(b": malformed\n")?;
+    writeln!(out, "line {line}: malformed")?;
     Ok(Tally {
-        droms: 0,
-        feedings: 0,
-        readings: 0,
         differ: 1,
+        ..Tally::default()
     })
 }
 
-// How many bytes each word of a line stands for.
-#[derive(Drop)]
-struct Words {
-    list: usize,
-    drom: usize,
-    fed: usize,
-}
-
-fn compare_lent<W: Write>(
-    out: &mut W,
-    line: u64,
-    n: Words,
-    list: &[u8],
-    drom: &[u8],
-    fed: &[u8],
-) -> io::Result<Tally>
-    ensures { IfOk result (λ t. OfOneLine t) }
-{
-    let list_end = n.list;
-    let drom_end = n.drom;
-    let fed_end = n.fed;
-    if smaller(list.len(), LIST) < list_end {
-        return malformed(out, line);
+// The words of a line that stand for the list, the DROM that is read and the one that is fed.
+fn words(text: &[u8]) -> (&[u8], &[u8], &[u8]) {
+    match word(text, 0) {
+        b"differs" => (word(text, 1), word(text, 2), word(text, 3)),
+        list => (list, word(text, 1), word(text, 1)),
     }
-    if drom.len() < drom_end {
-        return malformed(out, line);
-    }
-    if smaller(fed.len(), DROM) < fed_end {
-        return malformed(out, line);
-    }
-    compare(
-        out,
-        line,
-        &list[0..list_end],
-        &drom[0..drom_end],
-        &fed[0..fed_end],
-    )
-}
-
-fn compare_words<W: Write>(
-    out: &mut W,
-    line: u64,
-    list: &[u8],
-    drom: &[u8],
-    fed: &[u8],
-) -> io::Result<Tally>
-    ensures { IfOk result (λ t. OfOneLine t) }
-{
-    let mut list_bytes = [0u8; LIST];
-    let mut drom_bytes = [0u8; DROM];
-    let mut fed_bytes = [0u8; DROM];
-    let n = Words {
-        list: unhex(list, &mut list_bytes),
-        drom: unhex(drom, &mut drom_bytes),
-        fed: unhex(fed, &mut fed_bytes),
-    };
-    compare_lent(out, line, n, &list_bytes, &drom_bytes, &fed_bytes)
 }
 
 fn compare_line<W: Write>(out: &mut W, line: u64, text: &[u8]) -> io::Result<Tally>
     ensures { IfOk result (λ t. OfOneLine t) }
 {
     if is_comment(text) {
-        return Ok(Tally {
-            droms: 0,
-            feedings: 0,
-            readings: 0,
-            differ: 0,
-        });
+        return Ok(Tally::default());
     }
-    if same(word(text, 0), b"differs") {
-        return compare_words(out, line, word(text, 1), word(text, 2), word(text, 3));
-    }
-    compare_words(out, line, word(text, 0), word(text, 1), word(text, 1))
-}
-
-fn compare_lines<W: Write>(out: &mut W, text: &[u8]) -> io::Result<Tally>
-    requires { length text.now ≤ 262144 }
-{
-    let mut t = Tally {
-        droms: 0,
-        feedings: 0,
-        readings: 0,
-        differ: 0,
+    let mut list = [0; LIST];
+    let mut drom = [0; DROM];
+    let mut fed = [0; DROM];
+    let (list_word, drom_word, fed_word) = words(text);
+    let list = unhex(list_word, &mut list);
+    let drom = unhex(drom_word, &mut drom);
+    let fed = unhex(fed_word, &mut fed);
+    let (Some(list), Some(drom), Some(fed)) = (list, drom, fed) else {
+        return malformed(out, line);
     };
-    let mut line: u64 = 0;
-    let mut start = 0;
-    while start < text.len() {
-        let end = find(text, start, b'\n');
-        line += 1;
-        let c = compare_line(out, line, &text[start..end])?;
-        t.droms += c.droms;
-        t.feedings += c.feedings;
-        t.readings += c.readings;
-        t.differ += c.differ;
-        start = end + 1;
-    }
-    Ok(t)
+    let mut buffer = [LENT; ENOUGH];
+    let report = drom::read(list, drom, &mut buffer);
+    let case = Case {
+        line,
+        list,
+        fed,
+        report,
+        buffer: &buffer,
+    };
+    compare(out, &case)
 }
 
-fn put<W: Write>(out: &mut W, n: u64, what: &[u8]) -> io::Result<()> {
-    print_decimal(out, n)?;
-    out.write_all(what)
+// Not by lines' comparison, which counts right and wrong: here lines have numbers, and four counts are added up.
+fn compare_lines<W: Write>(out: &mut W, text: &[u8]) -> io::Result<Tally> {
+    let mut tally = Tally::default();
+    for (text, line) in text.split_inclusive(|b| *b == b'\n').zip(1..) {
+        let text = text.strip_suffix(b"\n").unwrap_or(text);
+        tally += compare_line(out, line, text)?;
+    }
+    Ok(tally)
 }
 
 fn compare_input<R: Read, W: Write>(input: &mut R, out: &mut W) -> io::Result<()> {
-    let mut text = room();
-    let n = read_full(input, &mut text)?;
-    if n == INPUT {
-        out.write_all(b"too many lines to read\n")?;
-    }
-    let t = compare_lines(out, &text[..n])?;
-    put(out, t.droms, b" DROMs, ")?;
-    put(out, t.feedings, b" feedings, ")?;
-    put(out, t.readings, b" readings over structs, ")?;
-    put(out, t.differ, b" differ\n")
+    let mut room = [0; INPUT];
+    let text = read_text(input, out, "lines", &mut room)?;
+    let t = compare_lines(out, text)?;
+    write!(out, "{} DROMs, {} feedings, ", t.droms, t.feedings)?;
+    writeln!(
+        out,
+        "{} readings over structs, {} differ",
+        t.readings, t.differ
+    )
 }
 
 fn main(rt: HostRuntime) -> io::Result<()> {

@@ -13,8 +13,9 @@ use lib.Dec.{eqb}
 use lib.ListN.{length, get_or, take, drop, length-append, length-drop}
 use lib.Seq.{take-append_seam, get_or-append-add, get_or-drop, length-take-le}
 use Rattle.bits.proofs.OneAnswer.{one_answer}
-use Rattle.entry.specs.declared.parse.Decoded.{Decoded}
-use Rattle.entry.specs.declared.parse.Decoded.TheVariants.{Is, Refused}
+use Rattle.std.specs.Prelude.{Result, Ok, Err}
+use Rattle.entry.specs.declared.parse.DromEntry.{DromEntry}
+use Rattle.entry.specs.declared.refusal.Refusal.{Refusal}
 use Rattle.entry.specs.Adapters.{kind_in}
 use Rattle.entry.specs.Decode.{number_of}
 use Rattle.record.specs.Record.{record_of}
@@ -31,10 +32,10 @@ use Rattle.drom.proofs.WalkLaws.{front_inside, walk_end, walk_on}
 
 module _ (kinds : ℕ → ℕ) where
   on_room : (at L : ℕ) (bs : List ℕ) → (0 < L → length (flatten (walk_of kinds (at + L) (drop L (L ∷ bs))).records) ≤ 4 * length (drop L (L ∷ bs)))
-      → (d : Decoded) → front_of kinds L (L ∷ bs) ≡ d
+      → (d : Result DromEntry Refusal) → front_of kinds L (L ∷ bs) ≡ d
       → length (flatten (and_then at (take L (L ∷ bs)) d (walk_of kinds (at + L) (drop L (L ∷ bs)))).records) ≤ 4 * length (L ∷ bs)
   unfolding flatten
-  on_room at L bs ih (Is e) f =
+  on_room at L bs ih (Ok e) f =
       let in_front = front_inside kinds L (L ∷ bs) e f in
       let piece : List ℕ = take L (L ∷ bs) in
       let rest : List ℕ = flatten (walk_of kinds (at + L) (drop L (L ∷ bs))).records in
@@ -46,7 +47,7 @@ module _ (kinds : ℕ → ℕ) where
         length-drop L (L ∷ bs),
         ih in_front.0,
       )
-  on_room at L bs ih (Refused n) f = omega arith
+  on_room at L bs ih (Err r) f = omega arith
 
   walk_room_by : (n at : ℕ) (bs : List ℕ) → length bs ≤ n → length (flatten (walk_of kinds at bs).records) ≤ 4 * length bs
   unfolding flatten

@@ -13,9 +13,10 @@ use native.Mathlib.Omega.{arith}
 use borrow.Author.Tests.{ne_eqb, le-ltb}
 use lib.ListN.{length, take, drop, length-drop, length-append, take-append-drop}
 use lib.Seq.{take-append_seam, drop-append_seam, length-take-le}
+use Rattle.std.specs.Prelude.{Result, Ok, Err}
 use Rattle.entry.specs.declared.parse.DromEntry.{DromEntry}
-use Rattle.entry.specs.declared.parse.Decoded.{Decoded}
-use Rattle.entry.specs.declared.parse.Decoded.TheVariants.{Is, Refused}
+use Rattle.entry.specs.declared.refusal.Refusal.{Refusal}
+use Rattle.entry.specs.Refusals.{refusal_number}
 use Rattle.entry.specs.Adapters.{kind_in}
 use Rattle.entry.specs.Decode.{number_of}
 use Rattle.entry.proofs.FitLaws.{fit_decodes, decoded_fit}
@@ -32,7 +33,7 @@ module _ (kinds : ℕ → ℕ) where
   -- ---- an entry at the front
 
   -- where an entry stands at the front, those bytes are one
-  front_entry : (L : ℕ) (bs : List ℕ) (e : DromEntry) → front_of kinds L (L ∷ bs) ≡ Is e → Entry kinds (take L (L ∷ bs))
+  front_entry : (L : ℕ) (bs : List ℕ) (e : DromEntry) → front_of kinds L (L ∷ bs) ≡ Ok e → Entry kinds (take L (L ∷ bs))
   front_entry zero bs e f = absurd (not-suc-le-zero (front_inside kinds zero (zero ∷ bs) e f).0)
   front_entry (suc n) bs e f =
       let in_front = front_inside kinds (suc n) (suc n ∷ bs) e f in
@@ -44,7 +45,7 @@ module _ (kinds : ℕ → ℕ) where
       }
 
   -- an entry in front of other bytes stands there
-  entry_front : (bs body : List ℕ) → Entry kinds bs → (e : DromEntry) × (front_of kinds (length bs) (bs ++ body) ≡ Is e) × (entry_of kinds bs ≡ Is e)
+  entry_front : (bs body : List ℕ) → Entry kinds bs → (e : DromEntry) × (front_of kinds (length bs) (bs ++ body) ≡ Ok e) × (entry_of kinds bs ≡ Ok e)
   unfolding front_of
   entry_front bs body p =
       let d = (fit_decodes (kinds (number_of bs)) bs).0 p.fit in
@@ -95,10 +96,12 @@ module _ (kinds : ℕ → ℕ) where
     pub L : ℕ
     pub tail : List ℕ
     pub first : bs ≡ L ∷ tail
-    pub reason : front_of kinds L bs ≡ Refused n
+    pub refusal : Refusal
+    pub reason : front_of kinds L bs ≡ Err refusal
+    pub number : n ≡ refusal_number refusal
 
   blocked_number : {bs : List ℕ} {n : ℕ} → Blocked bs n → (6 ≤ n) × (n ≤ 11)
-  blocked_number {bs} {n} b = front_number kinds b.L bs n b.reason
+  blocked_number {bs} {n} b = rw b.number (front_number kinds b.L bs b.refusal b.reason)
 
   -- what a walk has passed can be cut; behind it is nothing, or what no entry stands at the front of
   pub record Stops (at : ℕ) (bs : List ℕ) (w : Walked) : Type 0 where
@@ -112,18 +115,18 @@ module _ (kinds : ℕ → ℕ) where
   stops_here at = record { rest = []; split = refl; cut = none; why = inl (refl, refl, refl) }
 
   module _ (at L : ℕ) (bs : List ℕ) where
-    refused_here : (n : ℕ) → front_of kinds L (L ∷ bs) ≡ Refused n → Stops at (L ∷ bs) (stop n at)
+    refused_here : (r : Refusal) → front_of kinds L (L ∷ bs) ≡ Err r → Stops at (L ∷ bs) (stop (refusal_number r) at)
     unfolding flatten
-    refused_here n f =
+    refused_here r f =
         let e : at ≡ at + 0 = omega arith in
         record {
           rest = L ∷ bs;
           split = refl;
           cut = none;
-          why = inr (e, record { L = L; tail = bs; first = refl; reason = f });
+          why = inr (e, record { L = L; tail = bs; first = refl; refusal = r; reason = f; number = refl });
         }
 
-    stops_on : (e : DromEntry) (w : Walked) → front_of kinds L (L ∷ bs) ≡ Is e → Stops (at + L) (drop L (L ∷ bs)) w → Stops at (L ∷ bs) (and_then at (take L (L ∷ bs)) (Is e) w)
+    stops_on : (e : DromEntry) (w : Walked) → front_of kinds L (L ∷ bs) ≡ Ok e → Stops (at + L) (drop L (L ∷ bs)) w → Stops at (L ∷ bs) (and_then at (take L (L ∷ bs)) (Ok e) w)
     unfolding flatten
     stops_on e w f s =
         let piece : List ℕ = take L (L ∷ bs) in
@@ -145,9 +148,9 @@ module _ (kinds : ℕ → ℕ) where
         go long (inr h) = inr (omega (arith, h.0, length-append (take L (L ∷ bs)) (flatten w.entries)), h.1)
 
   stops_front : (at L : ℕ) (bs : List ℕ) → (0 < L → Stops (at + L) (drop L (L ∷ bs)) (walk_of kinds (at + L) (drop L (L ∷ bs))))
-      → (d : Decoded) → front_of kinds L (L ∷ bs) ≡ d → Stops at (L ∷ bs) (and_then at (take L (L ∷ bs)) d (walk_of kinds (at + L) (drop L (L ∷ bs))))
-  stops_front at L bs ih (Is e) f = stops_on at L bs e (walk_of kinds (at + L) (drop L (L ∷ bs))) f (ih (front_inside kinds L (L ∷ bs) e f).0)
-  stops_front at L bs ih (Refused n) f = refused_here at L bs n f
+      → (d : Result DromEntry Refusal) → front_of kinds L (L ∷ bs) ≡ d → Stops at (L ∷ bs) (and_then at (take L (L ∷ bs)) d (walk_of kinds (at + L) (drop L (L ∷ bs))))
+  stops_front at L bs ih (Ok e) f = stops_on at L bs e (walk_of kinds (at + L) (drop L (L ∷ bs))) f (ih (front_inside kinds L (L ∷ bs) e f).0)
+  stops_front at L bs ih (Err r) f = refused_here at L bs r f
 
   stops_by : (n at : ℕ) (bs : List ℕ) → length bs ≤ n → Stops at bs (walk_of kinds at bs)
   stops_by zero at [] h = rw (walk_end kinds at) (stops_here at)

@@ -1,15 +1,29 @@
--- What an accepted header says of sizes: "4,108 bytes with length 4,095 passes the header; 4,109 never does".
+-- What an accepted header says of sizes: "4,108 bytes with length 4,095 passes the header; 4,109 never does"; and that a header's values are
+-- those of the first 16 bytes.
 -- Assumes nothing.
-use mathlib.Core.Path.{◌≡◌, refl}
+use mathlib.Core.Path.{◌≡◌, refl, sym}
 use mathlib.Core.Bool.{Bool, true, false, cond, not, ◌&&◌}
-use mathlib.Core.List.{List}
-use Prim.Native.Nat.{ℕ, ◌+◌, ◌%◌, ◌≤◌}
+use mathlib.Core.List.{List, [], ◌∷◌}
+use Prim.Native.Nat.{ℕ, ◌+◌, ◌%◌, ◌≤◌, ◌<◌}
 use native.Mathlib.Omega.{arith}
-use borrow.Author.Tests.{ltb-false, eqb-true, le-ltb, eq-eqb}
+use borrow.Author.Tests.{ltb-false, eqb-true, le-ltb, eq-eqb, ne_eqb}
 use lib.Dec.{ltb, eqb}
-use lib.ListN.{length}
-use Rattle.drom.specs.Header.{length_in, is_tbt3, body_start, header_refusal}
+use lib.ListN.{length, take, drop}
+use lib.Seq.{get_or-take, take-take}
+use Rattle.std.specs.Prelude.{Result, Ok, Err}
+use Rattle.std.specs.Result.{is_ok}
+use Rattle.entry.specs.declared.refusal.Refusal.{Refusal}
+use Rattle.entry.specs.Refusals.{refusal_number, answer_number}
+use Rattle.entry.proofs.FitLaws.{some_number}
+use Rattle.bits.specs.Bits.{byte}
+use Rattle.drom.specs.Header.{length_in, is_tbt3, body_start, crc8_right, header_refusal}
+use Rattle.drom.specs.HeaderValues.{values_in}
 use Rattle.drom.specs.Report.{refusal_of}
+
+-- an answer is well exactly where its number is 0
+pub ok_number : {A : Type 0} (a : Result A Refusal) → is_ok a ≡ eqb (answer_number a) 0
+ok_number (Ok x) = refl
+ok_number (Err r) = sym (ne_eqb (refusal_number r) 0 (λ z. omega (arith, some_number r)))
 
 pub record Sizes (drom : List ℕ) : Type 0 where
   pub least : 16 ≤ length drom
@@ -58,3 +72,15 @@ longest_passes drom n l =
 -- "4,109 never does"
 pub longer_never : (drom : List ℕ) → 4109 ≤ length drom → header_refusal drom ≡ 0 → ⊥
 longer_never drom n h = omega (arith, (sizes drom h).most)
+
+uuid_part : (drom : List ℕ) → take 8 (drop 1 (take 16 drom)) ≡ take 8 (drop 1 drom)
+uuid_part [] = refl
+uuid_part (x ∷ xs) = take-take 8 15 xs (omega arith)
+
+-- a header's values are those of the first 16 bytes
+pub first_16 : (drom : List ℕ) → values_in (take 16 drom) ≡ values_in drom
+unfolding crc8_right
+first_16 drom = rw (uuid_part drom, at 0 (omega arith), at 1 (omega arith), at 2 (omega arith), at 3 (omega arith), at 4 (omega arith), at 5 (omega arith), at 6 (omega arith), at 7 (omega arith), at 8 (omega arith), at 9 (omega arith), at 10 (omega arith), at 11 (omega arith), at 12 (omega arith), at 13 (omega arith), at 14 (omega arith), at 15 (omega arith))
+  where
+    at : (i : ℕ) → i < 16 → byte i (take 16 drom) ≡ byte i drom
+    at i h = get_or-take 16 drom i 0 h

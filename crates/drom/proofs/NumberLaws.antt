@@ -11,15 +11,16 @@ use native.Mathlib.Omega.{arith}
 use borrow.Author.Tests.{eqb-true, eqb-false, eq-eqb, ne_eqb}
 use lib.Dec.{ltb, eqb}
 use lib.ListN.{length, drop}
-use Rattle.util.specs.declared.utf16.Utf16Ascii.TheVariants.{OddLength, NoRoom}
+use Rattle.std.specs.Prelude.{Err}
+use Rattle.util.specs.declared.utf16.Utf16Error.TheVariants.{OddLength, NoRoom}
 use Rattle.util.specs.Utf16.{utf16_ascii_number}
 use Rattle.util.proofs.Rows.{split}
 use Rattle.entry.specs.Adapters.{kind_in}
 use Rattle.entry.specs.Decode.{odd_utf16}
-use Rattle.record.specs.declared.write.Written.TheVariants as written
-use Rattle.record.specs.Write.{written_number}
+use Rattle.entry.specs.declared.refusal.Refusal.TheVariants.{TooFew, WrongLength, ShortTbt3, SmallBuffer, OddList, ZeroLength, PastEnd}
+use Rattle.entry.specs.Refusals.{refusal_number}
 use Rattle.drom.specs.declared.reader.Report.{Report}
-use Rattle.drom.specs.Numbers.{small_buffer}
+use Rattle.drom.specs.Numbers.{too_few, wrong_length, short_tbt3, small_buffer, odd_list, zero_length, past_end}
 use Rattle.drom.specs.Header.{length_in, is_tbt3, body_start, room_for}
 use Rattle.drom.specs.Report.{refusal_of, walk_in, report_of}
 use Rattle.drom.proofs.ReportLaws.{report_walked, report_refused}
@@ -79,6 +80,9 @@ module _ (list drom : List ℕ) (room : ℕ) where
     number_odd,
   )
 
--- the numbers of the enums that crates util and record answer are this crate's and crate entry's
-pub enum_numbers : (utf16_ascii_number OddLength ≡ odd_utf16) × (utf16_ascii_number NoRoom ≡ small_buffer) × (written_number written.NoRoom ≡ small_buffer)
-enum_numbers = (refl, refl, refl)
+-- the numbers of the enums that crates util and entry answer are this crate's and crate entry's (`entry_numbers`, crate entry, proofs/FitLaws)
+pub enum_numbers : (utf16_ascii_number (Err OddLength) ≡ odd_utf16) × (utf16_ascii_number (Err NoRoom) ≡ small_buffer)
+    × (refusal_number TooFew ≡ too_few) × (refusal_number WrongLength ≡ wrong_length) × (refusal_number ShortTbt3 ≡ short_tbt3)
+    × (refusal_number SmallBuffer ≡ small_buffer) × (refusal_number OddList ≡ odd_list) × (refusal_number ZeroLength ≡ zero_length)
+    × (refusal_number PastEnd ≡ past_end)
+enum_numbers = (refl, refl, refl, refl, refl, refl, refl, refl, refl)

@@ -11,8 +11,9 @@ use borrow.Author.Tests.{eqb-true}
 use lib.Dec.{eqb}
 use lib.ListN.{length, take, drop, get_or, length-drop, get_or-eq_default}
 use lib.Seq.{length-take-le}
-use Rattle.entry.specs.declared.parse.Decoded.{Decoded}
-use Rattle.entry.specs.declared.parse.Decoded.TheVariants.{Is, Refused}
+use Rattle.std.specs.Prelude.{Result, Ok, Err}
+use Rattle.entry.specs.declared.parse.DromEntry.{DromEntry}
+use Rattle.entry.specs.declared.refusal.Refusal.{Refusal}
 use Rattle.entry.specs.Adapters.{kind_in}
 use Rattle.drom.specs.Header.{body_start, header_refusal}
 use Rattle.drom.specs.Walk.{Walked, front_of, piece_at, and_then, walk_by, walk_of}
@@ -76,10 +77,10 @@ module _ (kinds : ℕ → ℕ) (drom : List ℕ) where
 -- ---- as many entries as records
 
 module _ (kinds : ℕ → ℕ) where
-  many_then : (at : ℕ) (bs : List ℕ) (d : Decoded) (w : Walked) → length w.entries ≡ length w.records
+  many_then : (at : ℕ) (bs : List ℕ) (d : Result DromEntry Refusal) (w : Walked) → length w.entries ≡ length w.records
       → length (and_then at bs d w).entries ≡ length (and_then at bs d w).records
-  many_then at bs (Is e) w h = ap suc h
-  many_then at bs (Refused n) w h = refl
+  many_then at bs (Ok e) w h = ap suc h
+  many_then at bs (Err r) w h = refl
 
   many_by : (turns at : ℕ) (bs : List ℕ) → length (walk_by turns kinds at bs).entries ≡ length (walk_by turns kinds at bs).records
   unfolding walk_by

@@ -8,16 +8,19 @@ use lib.ListN.{length, get_or, take, drop, length-append, length-drop, length-ta
 use lib.Seq.{length-take-le}
 use Rattle.bits.specs.Front.{onto, Wrote}
 use Rattle.bits.proofs.LawsFront.{wrote_none, follows}
-use Rattle.entry.specs.declared.parse.Decoded.{Decoded}
-use Rattle.entry.specs.declared.parse.Decoded.TheVariants.{Is}
+use Rattle.std.specs.Prelude.{Result, Ok, Err, Option, Some, None}
+use Rattle.entry.specs.declared.parse.DromEntry.{DromEntry}
+use Rattle.entry.specs.declared.refusal.Refusal.{Refusal}
+use Rattle.entry.specs.declared.refusal.Refusal.TheVariants.{SmallBuffer}
+use Rattle.entry.specs.Refusals.{refusal_number}
 use Rattle.entry.specs.Decode.{number_of}
 use Rattle.record.specs.Record.{record_of}
 use Rattle.record.specs.Write.{record_bytes, answer_of}
-use Rattle.record.specs.declared.write.Written.TheVariants as written
-use Rattle.record.proofs.WriteLaws.{written_room, answer_record, answer_refused, answer_room}
+use Rattle.record.proofs.WriteLaws.{written_room, answer_record, answer_refused}
 use Rattle.drom.specs.Walk.{Walked, piece_at, front_at, and_then, walk_of}
-use Rattle.drom.specs.Walking.{Tells}
-use Rattle.drom.proofs.WalkLaws.{front_inside, walk_at, walk_past}
+use Rattle.drom.specs.declared.walk.Stop.{Stop}
+use Rattle.drom.specs.Walking.{stop_number, stop_offset, Tells}
+use Rattle.drom.proofs.WalkLaws.{front_inside, front_number, walk_at, walk_past}
 use Rattle.drom.proofs.Joined.{flatten_snoc}
 
 -- a buffer that was written to has its length
@@ -64,21 +67,21 @@ module _ (kinds : ℕ → ℕ) (drom : List ℕ) (start : ℕ) where
   }
 
   -- nothing is left to walk over: what the walk comes to, for a buffer that holds what is written so far
-  told : (out₀ out after : List ℕ) (at records bytes n offset : ℕ) (g : Going out₀ out at records bytes)
-      → g.left ≡ record { entries = []; records = []; number = n; offset = offset } → after ≡ onto (flatten g.done) out₀
-      → Tells whole out₀ after n offset records bytes
-  told out₀ out after at records bytes n offset g stop holds =
-      let all : whole.records ≡ g.done = g.as_records ∙ ap (λ (v : Walked). g.done ++ v.records) stop ∙ append-nil g.done in
+  told : (out₀ out after : List ℕ) (at records bytes : ℕ) (stop : Option Stop) (g : Going out₀ out at records bytes)
+      → g.left ≡ record { entries = []; records = []; number = stop_number stop; offset = stop_offset stop } → after ≡ onto (flatten g.done) out₀
+      → Tells whole out₀ after stop records bytes
+  told out₀ out after at records bytes stop g left holds =
+      let all : whole.records ≡ g.done = g.as_records ∙ ap (λ (v : Walked). g.done ++ v.records) left ∙ append-nil g.done in
       record {
-        number = sym (g.as_number ∙ ap (λ (v : Walked). v.number) stop);
-        offset = sym (g.as_offset ∙ ap (λ (v : Walked). v.offset) stop);
+        number = sym (g.as_number ∙ ap (λ (v : Walked). v.number) left);
+        offset = sym (g.as_offset ∙ ap (λ (v : Walked). v.offset) left);
         records = g.count ∙ ap length (sym all);
         bytes = g.wrote.counts ∙ ap (λ (rs : List (List ℕ)). length (flatten rs)) (sym all);
         buffer = holds ∙ ap (λ (rs : List (List ℕ)). onto (flatten rs) out₀) (sym all);
       }
 
-  pub going_end : (out₀ out : List ℕ) (at records bytes : ℕ) → Going out₀ out at records bytes → length drom ≤ at → Tells whole out₀ out 0 0 records bytes
-  going_end out₀ out at records bytes g h = told out₀ out out at records bytes 0 0 g (g.left_is ∙ walk_past kinds drom at h) g.wrote.holds
+  pub going_end : (out₀ out : List ℕ) (at records bytes : ℕ) → Going out₀ out at records bytes → length drom ≤ at → Tells whole out₀ out None records bytes
+  going_end out₀ out at records bytes g h = told out₀ out out at records bytes None g (g.left_is ∙ walk_past kinds drom at h) g.wrote.holds
 
   module _ (out₀ out : List ℕ) (at records bytes : ℕ) (g : Going out₀ out at records bytes) (inside : at < length drom) where
     -- the part of the buffer that is left has room for any entry
@@ -91,7 +94,7 @@ module _ (kinds : ℕ → ℕ) (drom : List ℕ) (start : ℕ) where
       after = take bytes out ++ (part ++ drop (length out - bytes) (drop bytes out))
 
       pub going_next : (n : ℕ) → 16 ≤ start → length drom ≤ 4108 → 16368 ≤ length out₀
-          → answer_of at (piece_at drom at) (front_at kinds drom at) ≡ written.Record n
+          → answer_of at (piece_at drom at) (front_at kinds drom at) ≡ Ok n
           → Going out₀ after (at + get_or drom at 0) (records + 1) (bytes + n)
       going_next n s m room a =
           let r = answer_record at (piece_at drom at) (front_at kinds drom at) n a in
@@ -100,13 +103,13 @@ module _ (kinds : ℕ → ℕ) (drom : List ℕ) (start : ℕ) where
           let in_front = front_inside kinds L (drop at drom) e r.is in
           let one : List ℕ = record_of at (piece_at drom at) e in
           let w : Wrote one (take (length out - bytes) (drop bytes out)) part n =
-          record { holds = lent ∙ ap (λ (d : Decoded). onto (record_bytes at (piece_at drom at) d) (take (length out - bytes) (drop bytes out))) r.is; counts = r.size }
+          record { holds = lent ∙ ap (λ (d : Result DromEntry Refusal). onto (record_bytes at (piece_at drom at) d) (take (length out - bytes) (drop bytes out))) r.is; counts = r.size }
           in
           let both : Wrote (flatten g.done ++ one) out₀ after (bytes + n) = follows bytes g.wrote.counts g.wrote w in
           let fits : length one ≤ 4 * length (piece_at drom at) = written_room (piece_at drom at) (kinds (number_of (piece_at drom at))) at e in_front.2 in
           let long_piece : length (piece_at drom at) ≡ L = length-take-le L (drop at drom) in_front.1 in
-          let on : g.left ≡ and_then at (piece_at drom at) (Is e) (walk_of kinds (at + L) (drop (at + L) drom)) =
-          g.left_is ∙ walk_at kinds drom at inside ∙ ap (λ (d : Decoded). and_then at (piece_at drom at) d (walk_of kinds (at + L) (drop (at + L) drom))) r.is
+          let on : g.left ≡ and_then at (piece_at drom at) (Ok e) (walk_of kinds (at + L) (drop (at + L) drom)) =
+          g.left_is ∙ walk_at kinds drom at inside ∙ ap (λ (d : Result DromEntry Refusal). and_then at (piece_at drom at) d (walk_of kinds (at + L) (drop (at + L) drom))) r.is
           in
           let size : bytes + n + 4 * start ≤ 4 * (at + L) = omega (arith, r.size, g.small) in
           let end_inside : at + L ≤ length drom = omega (arith, in_front.1, length-drop at drom) in
@@ -130,23 +133,27 @@ module _ (kinds : ℕ → ℕ) (drom : List ℕ) (start : ℕ) where
           }
 
       -- an entry has a byte at least
-      pub going_on : (n : ℕ) → answer_of at (piece_at drom at) (front_at kinds drom at) ≡ written.Record n → 0 < get_or drom at 0
+      pub going_on : (n : ℕ) → answer_of at (piece_at drom at) (front_at kinds drom at) ≡ Ok n → 0 < get_or drom at 0
       going_on n a =
           let r = answer_record at (piece_at drom at) (front_at kinds drom at) n a in
           (front_inside kinds (get_or drom at 0) (drop at drom) r.entry r.is).0
 
-      pub going_refused : (n : ℕ) → answer_of at (piece_at drom at) (front_at kinds drom at) ≡ written.Refused n → Tells whole out₀ after n at records bytes
-      going_refused n a =
-          let r = answer_refused at (piece_at drom at) (front_at kinds drom at) n a in
+      pub going_refused : (r : Refusal) → answer_of at (piece_at drom at) (front_at kinds drom at) ≡ Err r
+          → Tells whole out₀ after (Some (record { refusal = r; offset = at })) records bytes
+      going_refused r a =
+          let d = answer_refused at (piece_at drom at) (front_at kinds drom at) r a in
           let w : Wrote [] (take (length out - bytes) (drop bytes out)) part 0 =
-          record { holds = lent ∙ ap (λ (d : Decoded). onto (record_bytes at (piece_at drom at) d) (take (length out - bytes) (drop bytes out))) r; counts = refl }
+          record { holds = lent ∙ ap (λ (d : Result DromEntry Refusal). onto (record_bytes at (piece_at drom at) d) (take (length out - bytes) (drop bytes out))) d; counts = refl }
           in
           let both : Wrote (flatten g.done ++ []) out₀ after (bytes + 0) = follows bytes g.wrote.counts g.wrote w in
-          let stop : g.left ≡ record { entries = []; records = []; number = n; offset = at } =
+          let left : g.left ≡ record { entries = []; records = []; number = refusal_number r; offset = at } =
           g.left_is ∙ walk_at kinds drom at inside
-          ∙ ap (λ (d : Decoded). and_then at (piece_at drom at) d (walk_of kinds (at + get_or drom at 0) (drop (at + get_or drom at 0) drom))) r
+          ∙ ap (λ (d : Result DromEntry Refusal). and_then at (piece_at drom at) d (walk_of kinds (at + get_or drom at 0) (drop (at + get_or drom at 0) drom))) d
           in
-          told out₀ out after at records bytes n at g stop (both.holds ∙ ap (λ (t : List ℕ). onto t out₀) (append-nil (flatten g.done)))
+          told out₀ out after at records bytes (Some (record { refusal = r; offset = at })) g left
+          (both.holds ∙ ap (λ (t : List ℕ). onto t out₀) (append-nil (flatten g.done)))
 
-      pub going_no_room : answer_of at (piece_at drom at) (front_at kinds drom at) ≡ written.NoRoom → ⊥
-      going_no_room a = answer_room at (piece_at drom at) (front_at kinds drom at) a
+      -- the room is never wanting
+      pub going_no_room : answer_of at (piece_at drom at) (front_at kinds drom at) ≡ Err SmallBuffer → ⊥
+      going_no_room a =
+          omega (arith, front_number kinds (get_or drom at 0) (drop at drom) SmallBuffer (answer_refused at (piece_at drom at) (front_at kinds drom at) SmallBuffer a))

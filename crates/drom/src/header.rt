@@ -1,116 +1,125 @@
 // The header of a DROM: its values and verdicts, and the refusals before the entries.
-ghost use Rattle.std.specs.Prelude.{◌≡◌, ◌≤◌, cond, eqb, length};
-ghost use Rattle.drom.specs.Header.{crc8_in, uuid_in, crc32_in, length_in, is_tbt3, body_start, crc8_right, crc32_right, header_number, header_refusal};
+ghost use Rattle.std.specs.Prelude.{◌≡◌, cond, eqb};
+ghost use Rattle.entry.specs.Refusals.{answer_number};
+ghost use Rattle.drom.specs.Header.{crc8_in, uuid_in, crc32_in, length_in, is_tbt3, body_start, crc8_right, header_number, header_refusal};
 ghost use Rattle.drom.specs.Report.{refusal_of};
-ghost use Rattle.drom.specs.HeaderValues.{header_values};
+ghost use Rattle.drom.specs.HeaderValues.{values_in, header_values};
+
+use entry::Refusal;
+
+// How many bytes a header has.
+const HEADER: usize = 16;
+
+// How many one of TBT3 has.
+const TBT3_HEADER: usize = 22;
+
+// Where the version stands. The length that a header states counts from here on, and CRC32 covers the bytes from here on.
+pub(crate) const VERSION: usize = 13;
 
 // The length that a header states. Bytes that are not there count as 0, here and in the next two.
 pub fn stated_length(drom: &[u8]) -> usize
     ensures { result ≡ length_in drom.now }
 {
-    (bits::le16(bits::byte_at(drom, 14), bits::byte_at(drom, 15)) % 4096) as usize
+    let stated = u16::from_le_bytes([bits::byte_at(drom, 14), bits::byte_at(drom, 15)]);
+    usize::from(stated % 4096)
 }
 
 pub fn is_tbt3(drom: &[u8]) -> bool
     ensures { result ≡ is_tbt3 drom.now }
 {
-    bits::byte_at(drom, 13) < 3
+    bits::byte_at(drom, VERSION) < 3
 }
 
 pub fn body_start(drom: &[u8]) -> usize
     ensures { result ≡ body_start drom.now }
 {
-    if is_tbt3(drom) { 22 } else { 16 }
+    if is_tbt3(drom) { TBT3_HEADER } else { HEADER }
 }
 
-// The number of the header of a DROM of this size: 2, then 3, or 0. Its first 16 bytes suffice.
+// Why the header of a DROM of this size is refused: 2, then 3. Its first 16 bytes suffice.
+fn check_header(drom: &[u8], size: usize) -> Result<(), Refusal>
+    ensures { answer_number result ≡ header_number size drom.now }
+{
+    if stated_length(drom) + VERSION != size {
+        return Err(Refusal::WrongLength);
+    }
+    if is_tbt3(drom) && size < TBT3_HEADER {
+        return Err(Refusal::ShortTbt3);
+    }
+    Ok(())
+}
+
+// The same as a number, or 0. Feeding holds it against the byte of a state, which is of the C interface.
 pub fn header_number(drom: &[u8], size: usize) -> u8
     ensures { result ≡ header_number size drom.now }
 {
-    if stated_length(drom) + 13 != size {
-        return 2;
-    }
-    if is_tbt3(drom) {
-        if size < 22 {
-            return 3;
-        }
-        return 0;
-    }
-    0
+    entry::answer_number(check_header(drom, size))
 }
 
+// Why the header of a whole DROM is refused: 1, then 2, then 3.
+fn check_whole(drom: &[u8]) -> Result<(), Refusal>
+    ensures { answer_number result ≡ header_refusal drom.now }
+{
+    if drom.len() < HEADER {
+        return Err(Refusal::TooFew);
+    }
+    check_header(drom, drom.len())
+}
+
+#[tactic(auto, using(crate::proofs::HeaderLaws::ok_number))]
 pub(crate) fn is_accepted(drom: &[u8]) -> bool
     ensures { result ≡ eqb (header_refusal drom.now) 0 }
 {
-    if drom.len() < 16 {
-        return false;
-    }
-    header_number(drom, drom.len()) == 0
+    check_whole(drom).is_ok()
 }
 
-// 5, 4, 1, then the header's own, or 0.
-pub(crate) fn refusal(list: &[u8], drom: &[u8], room: usize) -> u8
-    ensures { result ≡ refusal_of list.now drom.now room }
+// Why a DROM is refused before its entries: 5, 4, then the header's 1, 2, 3.
+pub(crate) fn check(list: &[u8], drom: &[u8], room: usize) -> Result<(), Refusal>
+    ensures { answer_number result ≡ refusal_of list.now drom.now room }
 {
     if list.len() % 2 == 1 {
-        return 5;
+        return Err(Refusal::OddList);
     }
     if room < 16368 {
-        return 4;
+        return Err(Refusal::SmallBuffer);
     }
-    if drom.len() < 16 {
-        return 1;
-    }
-    header_number(drom, drom.len())
+    check_whole(drom)
 }
 
-pub(crate) fn stored_crc32(drom: &[u8]) -> u32
-    requires { 16 ≤ length drom.now }
-    ensures { result ≡ crc32_in drom.now }
+fn stored_crc32(header: &[u8; HEADER]) -> u32
+    ensures { result ≡ crc32_in header.now }
 {
-    bits::le32(drom[9], drom[10], drom[11], drom[12])
-}
-
-pub(crate) fn is_crc32_valid(drom: &[u8]) -> bool
-    requires { 16 ≤ length drom.now }
-    ensures { result ≡ crc32_right drom.now }
-{
-    util::crc32(&drom[13..]) == stored_crc32(drom)
+    u32::from_le_bytes([header[9], header[10], header[11], header[12]])
 }
 
 // CRC8 and UUID, which only TBT3 has.
-pub(crate) fn stored_crc8(drom: &[u8]) -> u8
-    requires { 16 ≤ length drom.now }
-    ensures { result ≡ cond (is_tbt3 drom.now) (crc8_in drom.now) 0 }
+fn stored_crc8(header: &[u8; HEADER]) -> u8
+    ensures { result ≡ cond (is_tbt3 header.now) (crc8_in header.now) 0 }
 {
-    if is_tbt3(drom) { drom[0] } else { 0 }
+    if is_tbt3(header) { header[0] } else { 0 }
 }
 
-pub(crate) fn stored_uuid(drom: &[u8]) -> u64
-    requires { 16 ≤ length drom.now }
-    ensures { result ≡ cond (is_tbt3 drom.now) (uuid_in drom.now) 0 }
+fn stored_uuid(header: &[u8; HEADER]) -> u64
+    ensures { result ≡ cond (is_tbt3 header.now) (uuid_in header.now) 0 }
 {
-    if is_tbt3(drom) {
-        bits::le64(
-            drom[1], drom[2], drom[3], drom[4], drom[5], drom[6], drom[7], drom[8],
-        )
+    if is_tbt3(header) {
+        u64::from_le_bytes([
+            header[1], header[2], header[3], header[4], header[5], header[6], header[7], header[8],
+        ])
     } else {
         0
     }
 }
 
-pub(crate) fn is_crc8_valid(drom: &[u8]) -> bool
-    requires { 16 ≤ length drom.now }
-    ensures { result ≡ crc8_right drom.now }
+#[tactic(auto, unfolding(crate::specs::Header::crc8_right))]
+fn is_crc8_valid(header: &[u8; HEADER]) -> bool
+    ensures { result ≡ crc8_right header.now }
 {
-    if is_tbt3(drom) {
-        return util::crc8(&drom[1..9]) == drom[0];
-    }
-    false
+    is_tbt3(header) && util::crc8(&header[1..9]) == header[0]
 }
 
 // The values of a header: of the first 16 bytes of a DROM, or more.
-#[derive(Clone, Copy)]
+#[derive(Clone, Copy, Debug, Default, PartialEq, Eq)]
 pub struct HeaderValues {
     pub version: u8,
     pub length: usize,
@@ -121,28 +130,27 @@ pub struct HeaderValues {
     pub crc8good: bool,
 }
 
-// Zeros and no where there are fewer than 16 bytes.
+// The values that the 16 bytes tell.
+fn values_in(header: &[u8; HEADER]) -> HeaderValues
+    ensures { result ≡ values_in header.now }
+{
+    HeaderValues {
+        version: header[VERSION],
+        length: stated_length(header),
+        start: body_start(header),
+        crc32: stored_crc32(header),
+        crc8: stored_crc8(header),
+        uuid: stored_uuid(header),
+        crc8good: is_crc8_valid(header),
+    }
+}
+
+// Zeros and no where there are fewer than 16 bytes, as the clause has it.
 pub fn header_values(bytes: &[u8]) -> HeaderValues
     ensures { result ≡ header_values bytes.now }
 {
-    if bytes.len() < 16 {
-        return HeaderValues {
-            version: 0,
-            length: 0,
-            start: 0,
-            crc32: 0,
-            crc8: 0,
-            uuid: 0,
-            crc8good: false,
-        };
-    }
-    HeaderValues {
-        version: bytes[13],
-        length: stated_length(bytes),
-        start: body_start(bytes),
-        crc32: stored_crc32(bytes),
-        crc8: stored_crc8(bytes),
-        uuid: stored_uuid(bytes),
-        crc8good: is_crc8_valid(bytes),
+    match bytes.first_chunk() {
+        Some(header) => values_in(header),
+        None => HeaderValues::default(),
     }
 }

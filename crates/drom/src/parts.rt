@@ -1,114 +1,98 @@
 // Parts of the caller's own bytes: the header, the body, the whole DROM, and the n-th accepted entry. The names are the Rust's,
-// where `Drom` has them; `head` is its `header`.
-ghost use Rattle.std.specs.Prelude.{◌≡◌, cond, [], ◌+◌, ◌<◌, ◌≤◌, length, get_or, drop};
+// where `Drom` has them; `head` is its `header`. Where there is no such part it is the empty one, as document 01 and the clauses have it.
+ghost use Rattle.std.specs.Prelude.{◌≡◌, ◌<◌, ◌≤◌, IfSome, length, drop};
+ghost use Rattle.std.specs.Option.{unwrap_or};
 ghost use Rattle.entry.specs.Adapters.{kind_in};
-ghost use Rattle.drom.specs.Walk.{front_at, is_entry, walk_of};
+ghost use Rattle.drom.specs.Walk.{walk_of};
+ghost use Rattle.drom.specs.Walking.{end_at};
 ghost use Rattle.drom.specs.Parts.{header_part, body_part, whole_part, entry_part, offset_in, entry_offset};
 
 use super::header::{body_start, is_accepted};
-use super::walk::listed_kind;
-use entry::Decoded;
-
-fn none<'a>(drom: &'a [u8]) -> &'a [u8]
-    ensures { result.now ≡ [] }
-{
-    &drom[0..0]
-}
+use super::walk::{entry_bytes, listed_kind};
 
 // The header, bytes 0 to 15 or, for TBT3, to 21.
 pub fn head<'a>(drom: &'a [u8]) -> &'a [u8]
     ensures { result.now ≡ header_part drom.now }
 {
     if is_accepted(drom) {
-        let start = body_start(drom);
-        return &drom[0..start];
+        &drom[..body_start(drom)]
+    } else {
+        &[]
     }
-    none(drom)
 }
 
 pub fn body<'a>(drom: &'a [u8]) -> &'a [u8]
     ensures { result.now ≡ body_part drom.now }
 {
     if is_accepted(drom) {
-        let start = body_start(drom);
-        return &drom[start..];
+        &drom[body_start(drom)..]
+    } else {
+        &[]
     }
-    none(drom)
 }
 
 // The whole DROM.
 pub fn bytes<'a>(drom: &'a [u8]) -> &'a [u8]
     ensures { result.now ≡ whole_part drom.now }
 {
-    if is_accepted(drom) {
-        return &drom[0..];
-    }
-    none(drom)
+    if is_accepted(drom) { drom } else { &[] }
 }
 
-// Where the entry at an offset ends, or 0 where none stands there.
-fn entry_end(list: &[u8], drom: &[u8], at: usize) -> usize
+// Where the entry at an offset ends, if one stands there.
+fn entry_end(list: &[u8], drom: &[u8], at: usize) -> Option<usize>
     requires { at < length drom.now }
-    ensures { result ≡ cond (is_entry (front_at (kind_in list.now) drom.now at)) (at + get_or drom.now at 0) 0 }
+    ensures { result ≡ end_at (kind_in list.now) drom.now at }
 {
-    let n = drom[at] as usize;
-    if n == 0 {
-        return 0;
-    }
-    if drom.len() - at < n {
-        return 0;
-    }
-    let end = at + n;
-    let bytes = &drom[at..end];
-    match entry::decode(bytes, listed_kind(list, bytes)) {
-        Decoded::Is(_) => end,
-        Decoded::Refused(_) => 0,
-    }
+    let bytes = entry_bytes(drom, at).ok()?;
+    entry::decode(bytes, listed_kind(list, bytes)).ok()?;
+    Some(at + bytes.len())
 }
 
-// Where the n-th entry from an offset on stands, or 0 where there is none.
-fn offset_from(list: &[u8], drom: &[u8], start: usize, n: usize) -> usize
-    requires { start ≤ length drom.now }
-    ensures { result ≡ offset_in start (walk_of (kind_in list.now) start (drop start drom.now)).entries n }
+// Where the n-th entry from an offset on stands, if there are so many.
+fn offset_from(list: &[u8], drom: &[u8], start: usize, n: usize) -> Option<usize>
+    requires { (0 < start) × (start ≤ length drom.now) }
+    ensures place { unwrap_or result 0 ≡ offset_in start (walk_of (kind_in list.now) start (drop start drom.now)).entries n }
+    ensures some { IfSome result (λ at. 0 < at) }
 {
     let mut at = start;
     let mut left = n;
+    // The cursor moves by each entry's length, and `left` says how many entries stand before the one that is wanted.
     while at < drom.len() {
-        let end = entry_end(list, drom, at);
-        if end == 0 {
-            return 0;
-        }
+        let end = entry_end(list, drom, at)?;
         if left == 0 {
-            return at;
+            return Some(at);
         }
         left -= 1;
         at = end;
     }
-    0
+    None
 }
 
-// Where the n-th accepted entry stands, counted from 0, or 0 where there is none.
+// Where the n-th accepted entry stands, counted from 0, if there is one. List, DROM and n are what the two public calls below take: a
+// type for the three would be made for each call.
+fn place_of(list: &[u8], drom: &[u8], n: usize) -> Option<usize>
+    ensures place { unwrap_or result 0 ≡ entry_offset list.now drom.now n }
+    ensures some { IfSome result (λ at. 0 < at) }
+{
+    if list.len() % 2 == 1 || !is_accepted(drom) {
+        return None;
+    }
+    offset_from(list, drom, body_start(drom), n)
+}
+
+// The same, or 0 where there is none: a number, as the C call drom_entry promises it.
 pub fn entry_offset(list: &[u8], drom: &[u8], n: usize) -> usize
     ensures { result ≡ entry_offset list.now drom.now n }
 {
-    if list.len() % 2 == 1 {
-        return 0;
-    }
-    if is_accepted(drom) {
-        let start = body_start(drom);
-        return offset_from(list, drom, start, n);
-    }
-    0
+    place_of(list, drom, n).unwrap_or(0)
 }
 
 // The n-th accepted entry, counted from 0. An entry before a refused one can be had.
 pub fn nth_entry<'a>(list: &[u8], drom: &'a [u8], n: usize) -> &'a [u8]
     ensures { result.now ≡ entry_part list.now drom.now n }
 {
-    let at = entry_offset(list, drom, n);
-    if at == 0 {
-        return none(drom);
-    }
-    let end = at + drom[at] as usize;
-    &drom[at..end]
+    let Some(at) = place_of(list, drom, n) else {
+        return &[];
+    };
+    &drom[at..at + usize::from(drom[at])]
 }

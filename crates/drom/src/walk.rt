@@ -1,84 +1,86 @@
 // The walk over a body: what stands at an offset, entry by entry.
-ghost use Rattle.std.specs.Prelude.{◌≡◌, ◌*◌, ◌-◌, ◌≤◌, ◌<◌, length, drop};
+ghost use Rattle.std.specs.Prelude.{◌≡◌, ◌*◌, ◌-◌, ◌≤◌, ◌<◌, MatchResult, length, drop};
 ghost use Rattle.bits.specs.Front.{onto};
 ghost use Rattle.entry.specs.Adapters.{kind_in};
 ghost use Rattle.entry.specs.Decode.{number_of, decode_of};
 ghost use Rattle.record.specs.Write.{record_bytes, answer_of};
 ghost use Rattle.drom.specs.Walk.{piece_at, front_at, walk_of};
-ghost use Rattle.drom.specs.Walking.{Tells};
+ghost use Rattle.drom.specs.Walking.{StandsAt, RefusedAt, Tells};
 
-use record::Written;
+use entry::Refusal;
 
-// The kind that the list has for an entry's number, where it matters: for a used adapter.
+// The kind that the list has for an entry's number, where it matters: for a used adapter. A byte of the caller's list.
 pub(crate) fn listed_kind(list: &[u8], bytes: &[u8]) -> u8
     ensures { decode_of result bytes.now ≡ decode_of (kind_in list.now (number_of bytes.now)) bytes.now }
 {
-    if bytes.len() < 2 {
-        return 0;
+    match bytes {
+        [_, b @ 128..=191, ..] => entry::kind_in(list, *b % 64),
+        _ => 0,
     }
-    let b = bytes[1];
-    if b < 128 {
-        return 0;
+}
+
+// The bytes of the entry at an offset, as many as the first of them says. That the offset is within the DROM is what the test of a
+// loop has just shown, here, in the next and in
+// `entry_end`; a type for it would be made anew at each turn, and is no plainer.
+pub(crate) fn entry_bytes<'a>(drom: &'a [u8], at: usize) -> Result<&'a [u8], Refusal>
+    requires { at < length drom.now }
+    ensures { MatchResult result (λ bytes. StandsAt drom.now at bytes.now) (RefusedAt drom.now at) }
+{
+    let n = usize::from(drom[at]);
+    if n == 0 {
+        return Err(Refusal::ZeroLength);
     }
-    if 192 <= b {
-        return 0;
+    if drom.len() - at < n {
+        return Err(Refusal::PastEnd);
     }
-    entry::kind_in(list, b % 64)
+    Ok(&drom[at..at + n])
 }
 
 // The record of the entry at an offset, to the front of out.
-fn entry_at(list: &[u8], drom: &[u8], at: usize, out: &mut [u8]) -> Written
+fn entry_at(list: &[u8], drom: &[u8], at: usize, out: &mut [u8]) -> Result<usize, Refusal>
     requires { (at < length drom.now) × (4 * (length drom.now - at) ≤ length out.old) }
     ensures answer { result ≡ answer_of at (piece_at drom.now at) (front_at (kind_in list.now) drom.now at) }
     ensures buffer { out.new ≡ onto (record_bytes at (piece_at drom.now at) (front_at (kind_in list.now) drom.now at)) out.old }
 {
-    let n = drom[at] as usize;
-    if n == 0 {
-        return Written::Refused(6);
-    }
-    if drom.len() - at < n {
-        return Written::Refused(7);
-    }
-    let end = at + n;
-    let bytes = &drom[at..end];
+    let bytes = entry_bytes(drom, at)?;
     record::write_entry(bytes, listed_kind(list, bytes), at, out)
 }
 
-#[derive(Drop)]
-pub(crate) struct Passed {
-    pub(crate) number: u8,
+// Where a walk stops before its end, and why.
+#[derive(Clone, Copy)]
+pub(crate) struct Stop {
+    pub(crate) refusal: Refusal,
     pub(crate) offset: usize,
+}
+
+#[derive(Clone, Copy)]
+pub(crate) struct Passed {
+    pub(crate) stop: Option<Stop>,
     pub(crate) records: usize,
     pub(crate) bytes: usize,
 }
 
+// A step with a cursor, which an entry's length moves.
 pub(crate) fn walk(list: &[u8], drom: &[u8], start: usize, out: &mut [u8]) -> Passed
     requires { (16 ≤ start) × (start ≤ length drom.now) × (length drom.now ≤ 4108) × (16368 ≤ length out.old) }
-    ensures { Tells (walk_of (kind_in list.now) start (drop start drom.now)) out.old out.new result.number result.offset result.records result.bytes }
+    ensures { Tells (walk_of (kind_in list.now) start (drop start drom.now)) out.old out.new result.stop result.records result.bytes }
 {
     let mut at = start;
     let mut records = 0;
     let mut bytes = 0;
     while at < drom.len() {
         match entry_at(list, drom, at, &mut out[bytes..]) {
-            Written::Record(n) => {
-                at += drom[at] as usize;
+            Ok(n) => {
+                at += usize::from(drom[at]);
                 records += 1;
                 bytes += n;
             }
-            Written::Refused(number) => {
+            Err(refusal) => {
                 return Passed {
-                    number,
-                    offset: at,
-                    records,
-                    bytes,
-                };
-            }
-            // The room was tested before.
-            Written::NoRoom => {
-                return Passed {
-                    number: 4,
-                    offset: at,
+                    stop: Some(Stop {
+                        refusal,
+                        offset: at,
+                    }),
                     records,
                     bytes,
                 };
@@ -86,8 +88,7 @@ pub(crate) fn walk(list: &[u8], drom: &[u8], start: usize, out: &mut [u8]) -> Pa
         }
     }
     Passed {
-        number: 0,
-        offset: 0,
+        stop: None,
         records,
         bytes,
     }

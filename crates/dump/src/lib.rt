@@ -12,7 +12,8 @@ use record::Head;
 use std::io;
 use std::io::{Read, Write};
 
-// The largest DROM has 4,108 bytes. One more is read, so that longer input is not taken for one.
+// The largest DROM has 4,108 bytes. One more is read, so that longer input is not taken for one. Memory is of a fixed size, and
+// `read_full` tells how much of it is read.
 const MOST: usize = 4109;
 // Room for the records of any DROM.
 const ROOM: usize = 16368;

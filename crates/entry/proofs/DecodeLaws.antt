@@ -6,31 +6,31 @@ use mathlib.Core.List.{List, [], ◌∷◌}
 use mathlib.Core.Logic.{◌⊎◌, inl, inr}
 use Prim.Native.Nat.{ℕ, ◌<◌, ◌≤◌, ◌/◌, ◌%◌}
 use native.Mathlib.Omega.{arith}
-use borrow.Author.Tests.{lt-ltb, le-ltb, le-leb, lt-leb, eq-eqb, ne_eqb, eqb-true, eqb-false}
+use borrow.Author.Tests.{lt-ltb, le-ltb, le-leb, lt-leb, eq-eqb, ne_eqb}
 use lib.Dec.{T, leb, ltb, eqb, ltb→lt}
 use lib.ListN.{length}
 use Rattle.bits.specs.Bits.{byte, bits, bit}
 use Rattle.util.proofs.Rows.{split}
 use Rattle.util.proofs.Table.{both, both_left, both_right}
 use Rattle.entry.specs.Rows.{Row, unknown, adapter, unused, generic, least, no_text, text_in, choose, generic_rows, generic_row, adapter_rows, adapter_row, row_of}
-use Rattle.entry.specs.Decode.{values_of, too_short, text_refusal, unless_refused, row_entry, decode_of}
+use Rattle.std.specs.Prelude.{Option, Some, None, Result, Ok, Err}
+use Rattle.entry.specs.declared.refusal.Refusal.{Refusal}
+use Rattle.entry.specs.declared.refusal.Refusal.TheVariants.{TooShort}
+use Rattle.entry.specs.Decode.{values_of, text_refusal, unless_refused, row_entry, decode_of}
 use Rattle.entry.specs.declared.parse.DromEntry.{DromEntry}
-use Rattle.entry.specs.declared.parse.Decoded.TheVariants.{Is, Refused}
 
--- an entry is no refusal, and two answers that are equal have equal entries, or numbers
-pub is_refused : {e : DromEntry} {n : ℕ} → Is e ≡ Refused n → ⊥
-is_refused d = let z : ◌≡◌ {A = ℕ} 0 1 = cc in omega arith
+-- an entry is no refusal
+pub ok_err : {A : Type 0} {a : A} {r : Refusal} → ◌≡◌ {A = Result A Refusal} (Ok a) (Err r) → ⊥
+ok_err d = cc
 
-same_values_lem : {e f : DromEntry} → Is e ≡ Is f → e ≡ f
+-- two answers that are equal have equal entries
+same_values_lem : {e f : DromEntry} → ◌≡◌ {A = Result DromEntry Refusal} (Ok e) (Ok f) → e ≡ f
 same_values_lem d = cc
-
-pub same_refusal : {m n : ℕ} → Refused m ≡ Refused n → m ≡ n
-same_refusal d = cc
 
 -- ---- what comes of a row
 
 module _ (row : Row) (bs : List ℕ) where
-  pub row_short : length bs < least row bs → row_entry row bs ≡ Refused too_short
+  pub row_short : length bs < least row bs → row_entry row bs ≡ Err TooShort
   unfolding row_entry
   row_short h = rw (lt-ltb (length bs) (least row bs) h)
 
@@ -38,35 +38,71 @@ module _ (row : Row) (bs : List ℕ) where
   unfolding row_entry
   row_text h = rw (le-ltb (length bs) (least row bs) h)
 
-  pub row_plain : text_in row ≡ no_text → least row bs ≤ length bs → row_entry row bs ≡ Is (values_of row bs)
+  pub row_plain : text_in row ≡ no_text → least row bs ≤ length bs → row_entry row bs ≡ Ok (values_of row bs)
   row_plain e h = row_text h ∙ rw e
 
-  pub row_is_lem : {e : DromEntry} → text_in row ≡ no_text → least row bs ≤ length bs → e ≡ values_of row bs → Is e ≡ row_entry row bs
-  row_is_lem t h v = ap Is v ∙ sym (row_plain t h)
+  pub row_is_lem : {e : DromEntry} → text_in row ≡ no_text → least row bs ≤ length bs → e ≡ values_of row bs → Ok e ≡ row_entry row bs
+  row_is_lem t h v = ap Ok v ∙ sym (row_plain t h)
+
+  -- what comes of a row where the values are made of others, which are read
+  module _ {A : Type 0} (f : A → DromEntry) (x : A) (v : f x ≡ values_of row bs) where
+    -- the others, unless the entry is refused
+    abbrev pub Read : Result A Refusal → Type 0
+    Read answer = answer ≡ cond (ltb (length bs) (least row bs)) (Err TooShort) (unless_refused (text_refusal (text_in row) bs) x)
+
+    read_long : least row bs ≤ length bs → {answer : Result A Refusal} → answer ≡ unless_refused (text_refusal (text_in row) bs) x → Read answer
+    read_long h e = e ∙ rw (le-ltb (length bs) (least row bs) h)
+
+    map : Result A Refusal → Result DromEntry Refusal
+    map (Ok y) = Ok (f y)
+    map (Err r) = Err r
+
+    mapped : {answer : Result A Refusal} → Read answer → map answer ≡ row_entry row bs
+    unfolding row_entry map
+    mapped {answer} e = go (ltb (length bs) (least row bs)) (text_refusal (text_in row) bs) e
+      where
+        go : (t : Bool) (u : Option Refusal) → answer ≡ cond t (Err TooShort) (unless_refused u x) → map answer ≡ cond t (Err TooShort) (unless_refused u (values_of row bs))
+        go true u e = ap map e
+        go false None e = ap map e ∙ ap Ok v
+        go false (Some r) e = ap map e
+
+    pub read_ok : (y : A) → Read (Ok y) → Ok (f y) ≡ row_entry row bs
+    unfolding map
+    read_ok y e = mapped e
+
+    pub read_err : (r : Refusal) → Read (Err r) → Err r ≡ row_entry row bs
+    unfolding map
+    read_err r e = mapped e
+
+    pub text_ok : (y : A) → least row bs ≤ length bs → Ok y ≡ unless_refused (text_refusal (text_in row) bs) x → Ok (f y) ≡ row_entry row bs
+    text_ok y h e = read_ok y (read_long h e)
+
+    pub text_err : (r : Refusal) → least row bs ≤ length bs → Err r ≡ unless_refused (text_refusal (text_in row) bs) x → Err r ≡ row_entry row bs
+    text_err r h e = read_err r (read_long h e)
 
   -- one of three things comes of it
   pub data Comes : Type 0 where
-    short : length bs < least row bs → row_entry row bs ≡ Refused too_short → Comes
-    unwell : least row bs ≤ length bs → (text_refusal (text_in row) bs ≡ 0 → ⊥) → row_entry row bs ≡ Refused (text_refusal (text_in row) bs) → Comes
-    well : least row bs ≤ length bs → text_refusal (text_in row) bs ≡ 0 → row_entry row bs ≡ Is (values_of row bs) → Comes
+    short : length bs < least row bs → row_entry row bs ≡ Err TooShort → Comes
+    unwell : (r : Refusal) → least row bs ≤ length bs → text_refusal (text_in row) bs ≡ Some r → row_entry row bs ≡ Err r → Comes
+    well : least row bs ≤ length bs → text_refusal (text_in row) bs ≡ None → row_entry row bs ≡ Ok (values_of row bs) → Comes
 
   pub comes : Comes
-  comes = go (split (length bs) (least row bs)) (eqb (text_refusal (text_in row) bs) 0) refl
+  comes = go (split (length bs) (least row bs)) (text_refusal (text_in row) bs) refl
     where
-      go : (length bs < least row bs) ⊎ (least row bs ≤ length bs) → (t : Bool) → eqb (text_refusal (text_in row) bs) 0 ≡ t → Comes
+      go : (length bs < least row bs) ⊎ (least row bs ≤ length bs) → (t : Option Refusal) → text_refusal (text_in row) bs ≡ t → Comes
       go (inl h) t k = short h (row_short h)
-      go (inr h) true k = well h (eqb-true (text_refusal (text_in row) bs) 0 k) (row_text h ∙ rw k)
-      go (inr h) false k = unwell h (eqb-false (text_refusal (text_in row) bs) 0 k) (row_text h ∙ rw k)
+      go (inr h) None k = well h k (row_text h ∙ rw k)
+      go (inr h) (Some r) k = unwell r h k (row_text h ∙ rw k)
 
   -- what an entry that is decoded tells
-  pub decoded_values : (e : DromEntry) → row_entry row bs ≡ Is e
-      → (e ≡ values_of row bs) × (least row bs ≤ length bs) × (text_refusal (text_in row) bs ≡ 0)
+  pub decoded_values : (e : DromEntry) → row_entry row bs ≡ Ok e
+      → (e ≡ values_of row bs) × (least row bs ≤ length bs) × (text_refusal (text_in row) bs ≡ None)
   decoded_values e d = go comes
     where
-      go : Comes → (e ≡ values_of row bs) × (least row bs ≤ length bs) × (text_refusal (text_in row) bs ≡ 0)
-      go (short h r) = absurd (is_refused (sym d ∙ r))
-      go (unwell h n r) = absurd (is_refused (sym d ∙ r))
-      go (well h t r) = (same_values_lem (sym d ∙ r), h, t)
+      go : Comes → (e ≡ values_of row bs) × (least row bs ≤ length bs) × (text_refusal (text_in row) bs ≡ None)
+      go (short h r) = absurd (ok_err (sym d ∙ r))
+      go (unwell n h k r) = absurd (ok_err (sym d ∙ r))
+      go (well h t r) = (cc, h, t)
 
 -- ---- the row of a kind
 

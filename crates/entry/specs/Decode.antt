@@ -1,6 +1,6 @@
 -- Document 01, "Entries": the values of an entry, row by row, and why an entry is refused.
 -- Assumes nothing.
-use Rattle.std.specs.Prelude.{cond, List, ℕ, ◌+◌, ◌-◌, ◌*◌, ◌/◌, ◌%◌, ltb, eqb, ℤ, pos, negsuc, length, drop}
+use Rattle.std.specs.Prelude.{cond, Option, Some, None, Result, Ok, Err, List, ℕ, ◌+◌, ◌-◌, ◌*◌, ◌/◌, ◌%◌, ltb, eqb, ℤ, pos, negsuc, length, drop}
 use Rattle.bits.specs.Bits.{byte, bits, bit, le2, le4}
 use Rattle.util.specs.Utf16.{utf16_text}
 use Rattle.util.specs.Utf8.{is_utf8}
@@ -8,8 +8,9 @@ use Rattle.entry.specs.Names.{has_zero, before_zero}
 use Rattle.entry.specs.Rows.{Row, unknown, adapter, unused, display_port, lane, pcie_up, pcie_down, generic, ascii_vendor, ascii_model, tmu, product, serial, usb3_map, utf16_vendor, utf16_model, data_path, dptx, embedded_link, least, Text, no_text, name, utf16_from, text_in, row_of}
 use Rattle.entry.specs.declared.parse.DromEntry.{DromEntry}
 use Rattle.entry.specs.declared.parse.DromEntry.TheVariants.{Unknown, Adapter, UnusedAdapter, DisplayPortAdapter, LaneAdapter, PcieUpAdapter, PcieDownAdapter, Generic, AsciiVendorName, AsciiModelName, Tmu, ProductDescriptor, SerialNumber, Usb3PortMapping, Utf16VendorName, Utf16ModelName, SingleDataPath, DptxRanking, EmbeddedLink}
-use Rattle.entry.specs.declared.parse.Decoded.{Decoded}
-use Rattle.entry.specs.declared.parse.Decoded.TheVariants.{Is, Refused}
+use Rattle.entry.specs.declared.refusal.Refusal.{Refusal}
+use Rattle.entry.specs.declared.refusal.Refusal.TheVariants.{TooShort, NoZero, NotUtf8, OddUtf16}
+use Rattle.entry.specs.Refusals.{answer_number}
 
 -- "The TMU mode is a signed number, -1 for the bit pattern 3"
 abbrev pub mode_of : ℕ → ℤ
@@ -74,33 +75,33 @@ not_utf8 = 10
 abbrev pub odd_utf16 : ℕ
 odd_utf16 = 11
 
--- a name: 9, then 10; 0 where it is well
-unfoldable pub name_refusal : List ℕ → ℕ
-name_refusal bs = cond (has_zero (drop 2 bs)) (cond (is_utf8 (name_of bs)) 0 not_utf8) no_zero
+-- what a name is refused for: 9, then 10
+unfoldable pub name_refusal : List ℕ → Option Refusal
+name_refusal bs = cond (has_zero (drop 2 bs)) (cond (is_utf8 (name_of bs)) None (Some NotUtf8)) (Some NoZero)
 
--- a UTF-16 part
-abbrev pub utf16_refusal : List ℕ → ℕ
-utf16_refusal text = cond (eqb (length text % 2) 1) odd_utf16 0
+-- a UTF-16 part: 11
+abbrev pub utf16_refusal : List ℕ → Option Refusal
+utf16_refusal text = cond (eqb (length text % 2) 1) (Some OddUtf16) None
 
 -- what a row's text asks
-abbrev pub text_refusal : Text → List ℕ → ℕ
-text_refusal no_text bs = 0
+abbrev pub text_refusal : Text → List ℕ → Option Refusal
+text_refusal no_text bs = None
 text_refusal name bs = name_refusal bs
 text_refusal (utf16_from i) bs = utf16_refusal (drop i bs)
 
--- the entry of a row: 8 first, then what its text asks, then its values
-abbrev pub unless_refused : ℕ → DromEntry → Decoded
-unless_refused refusal e = cond (eqb refusal 0) (Is e) (Refused refusal)
+-- a value, unless something is refused
+abbrev pub unless_refused : {A : Type 0} → Option Refusal → A → Result A Refusal
+unless_refused None a = Ok a
+unless_refused (Some r) a = Err r
 
-unfoldable pub row_entry : Row → List ℕ → Decoded
-row_entry row bs = cond (ltb (length bs) (least row bs)) (Refused too_short) (unless_refused (text_refusal (text_in row) bs) (values_of row bs))
+-- the entry of a row: 8 first, then what its text asks, then its values
+unfoldable pub row_entry : Row → List ℕ → Result DromEntry Refusal
+row_entry row bs = cond (ltb (length bs) (least row bs)) (Err TooShort) (unless_refused (text_refusal (text_in row) bs) (values_of row bs))
 
 -- an entry, by the kind that is listed for its number
-unfoldable pub decode_of : ℕ → List ℕ → Decoded
+unfoldable pub decode_of : ℕ → List ℕ → Result DromEntry Refusal
 decode_of kind bs = row_entry (row_of kind bs) bs
 
--- "Where an answer is an enum, a definition gives this paper's number and values for each case of the enum": 0 for an entry, whose values are
--- its own, and the refusal's number
-abbrev pub decoded_number : Decoded → ℕ
-decoded_number (Is e) = 0
-decoded_number (Refused n) = n
+-- 0 for an entry, whose values are its own, and the refusal's number
+abbrev pub decoded_number : Result DromEntry Refusal → ℕ
+decoded_number d = answer_number d

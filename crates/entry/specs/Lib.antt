@@ -1,4 +1,5 @@
--- Document 01, "Entries": the adapters' kinds, the rows of the table, an entry's values or refusal, and what "fit for its kind" means.
+-- Document 01, "Entries" and "Numbers given back": the numbers of the refusals, the adapters' kinds, the rows of the table, an entry's values or refusal, and what "fit for its kind" means.
+pub mod Refusals
 pub mod Adapters
 pub mod Rows
 pub mod Names

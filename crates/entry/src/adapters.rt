@@ -3,6 +3,7 @@ ghost use Rattle.std.specs.Prelude.{◌≡◌};
 ghost use Rattle.entry.specs.Adapters.{kind_in};
 
 // The kind of the first adapter with the number, or 0, "other". A last byte that has no kind behind it counts for nothing.
+// Document 01 names this form of the search, a `loop` that yields the kind by `break`; the cursor moves by pairs.
 pub fn kind_in(list: &[u8], number: u8) -> u8
     ensures { result ≡ kind_in list.now number }
 {

@@ -1,7 +1,7 @@
 -- Whole entries of a piece, one after the other: what holds in the loop that takes them at once.
 -- Assumes nothing.
 use Prim.Native.Nat.{ℕ, zero, suc, ◌+◌, ◌-◌, ◌*◌, ◌≤◌, ◌<◌}
-use mathlib.Core.Path.{◌≡◌, refl, sym, ap, ap₂, subst, ◌∙◌}
+use mathlib.Core.Path.{◌≡◌, refl, sym, ap, subst, ◌∙◌}
 use mathlib.Core.List.{List, [], ◌∷◌, ◌++◌}
 use native.Mathlib.Omega.{arith}
 use native.Mathlib.Numerals.{add-one}
@@ -10,15 +10,16 @@ use lib.Seq.{sets, take_all, take-add, drop-cons, length-take-le, length-sets}
 use Rattle.bits.specs.Bits.{Bytes}
 use Rattle.bits.specs.Front.{onto, Put}
 use Rattle.bits.proofs.LawsFront.{put_once, puts_sets}
-use Rattle.entry.specs.declared.parse.Decoded.{Decoded}
+use Rattle.std.specs.Prelude.{Result, Ok, Err}
+use Rattle.entry.specs.declared.parse.DromEntry.{DromEntry}
+use Rattle.entry.specs.declared.refusal.Refusal.{Refusal}
 use Rattle.entry.specs.Decode.{number_of, decode_of}
 use Rattle.record.specs.Write.{record_bytes, write_answer, write_leaves}
-use Rattle.record.specs.declared.write.Written.TheVariants as written
-use Rattle.record.proofs.WriteLaws.{room_answer, room_leaves, answer_refused, answer_room}
+use Rattle.record.proofs.WriteLaws.{room_answer, room_leaves, answer_refused}
 use Rattle.drom.specs.Header.{body_start}
 use Rattle.feed.specs.declared.feeding.Core.{Core}
 use Rattle.feed.specs.Run.{Run, run, step_of, steps}
-use Rattle.feed.specs.Loop.{Good, Through, passed}
+use Rattle.feed.specs.Loop.{Good, Through}
 use Rattle.feed.proofs.StepLaws.{steps_nil, steps_cons, steps_append}
 use Rattle.feed.proofs.EndLaws.{part_of, with_part, part_long, part_front}
 use Rattle.feed.proofs.EntryBytes.{placed, passes, Between, at_once}
@@ -57,95 +58,100 @@ along_through r₀ xs r i a = record { same = a.same; within = a.up }
 pub through_still : (r : Run) (xs : List ℕ) (k : ℕ) (r' : Run) → Through r xs k r' → k ≡ 0 → r' ≡ r
 through_still r xs k r' t z = t.same ∙ ap (λ (j : ℕ). steps r (take j xs)) z ∙ steps_nil r
 
-module _ (c : Core) (h ks xs p₀ b₀ : List ℕ) where
-  abbrev r₀ : Run
-  r₀ = run c h p₀ ks b₀
+pub through_none : (r : Run) (xs : List ℕ) → Through r xs 0 r
+through_none r xs = record { same = sym (steps_nil r); within = omega arith }
 
-  abbrev now_at : ℕ → ℕ → ℕ → List ℕ → List ℕ → Run
-  now_at i count written p b = run (passed c i count written) h p ks b
+pub along_start : (r : Run) (xs : List ℕ) → Good r → r.core.refusal ≡ 0 → r.core.fill ≡ 0 → 16 ≤ r.core.taken → body_start r.header ≤ r.core.taken
+    → length xs ≤ r.core.announced - r.core.taken → Along r xs r 0
+along_start r xs g z f t s l =
+    let v = g.live z in
+    let m = v.small t in
+    record {
+      same = sym (steps_nil r);
+      taken = omega arith;
+      up = omega arith;
+      left = omega arith;
+      between = record { going = z; empty = f; late = omega arith; past = omega arith; long = g.long };
+      small = m;
+      fewer = omega (arith, v.fewer);
+      room = omega (arith, v.room, f);
+      lent = g.lent;
+      long = refl;
+    }
 
-  started : now_at 0 c.count c.written p₀ b₀ ≡ r₀
-  started = ap (λ (n : ℕ). run (record { announced = c.announced; taken = n; refusal = c.refusal; offset = c.offset; register = c.register; fill = c.fill; count = c.count; written = c.written }) h p₀ ks b₀) (omega arith)
+-- a whole entry of l bytes was taken at once, and its record has n bytes
+abbrev pub passed : Core → ℕ → ℕ → Core
+passed c l n =
+    record {
+      announced = c.announced;
+      taken = c.taken + l;
+      refusal = c.refusal;
+      offset = c.offset;
+      register = c.register;
+      fill = c.fill;
+      count = c.count + 1;
+      written = c.written + n;
+    }
 
-  pub through_none : Through r₀ xs 0 (now_at 0 c.count c.written p₀ b₀)
-  through_none = record { same = started ∙ sym (steps_nil r₀); within = omega arith }
+module _ (r₀ : Run) (xs : List ℕ) (r : Run) (i : ℕ) (a : Along r₀ xs r i) (l kind : ℕ) (bytes : List ℕ) (e : Whole xs i l bytes) where
+  abbrev w : ℕ
+  w = r.core.written
 
-  pub along_start : Good r₀ → c.refusal ≡ 0 → c.fill ≡ 0 → 16 ≤ c.taken → body_start h ≤ c.taken → length xs ≤ c.announced - c.taken
-      → Along r₀ xs (now_at 0 c.count c.written p₀ b₀) 0
-  along_start g z f t s l =
-      let v = g.live z in
-      let m = v.small t in
-      record {
-        same = through_none.same;
-        taken = refl;
-        up = omega arith;
-        left = omega arith;
-        between = record { going = z; empty = f; late = omega arith; past = omega arith; long = g.long };
-        small = m;
-        fewer = omega (arith, v.fewer);
-        room = omega (arith, v.room, f);
-        lent = g.lent;
-        long = refl;
-      }
+  abbrev b : List ℕ
+  b = r.buffer
 
-  module _ (i count w : ℕ) (p b : List ℕ) (a : Along r₀ xs (now_at i count w p b) i) (l kind : ℕ) (bytes : List ℕ)
-      (e : Whole xs i l bytes) where
-    size : length bytes ≡ l
-    size = ap length e.cut ∙ length-take-le l (drop i xs) (omega (arith, length-drop i xs, e.whole))
+  size : length bytes ≡ l
+  size = ap length e.cut ∙ length-take-le l (drop i xs) (omega (arith, length-drop i xs, e.whole))
 
-    pub enough : w + 4 * l ≤ length b
-    enough = omega (arith, a.lent, a.room, a.small, a.taken, a.left, a.between.late, e.whole)
+  pub enough : r.core.written + 4 * l ≤ length r.buffer
+  enough = omega (arith, a.lent, a.room, a.small, a.taken, a.left, a.between.late, e.whole)
 
-    roomy : 4 * length bytes ≤ length (part_of b w)
-    roomy = omega (arith, part_long b w, enough, size)
+  roomy : 4 * length bytes ≤ length (part_of b w)
+  roomy = omega (arith, part_long b w, enough, size)
 
-    -- nothing is w of an entry that has no record
-    pub unwritten : (n : ℕ) (part : List ℕ) → part ≡ write_leaves bytes kind (c.taken + i) (part_of b w)
-        → write_answer bytes kind (c.taken + i) (length (part_of b w)) ≡ written.Refused n → with_part b w part ≡ b
-    unwritten n part leaves answer =
-        let is : decode_of kind bytes ≡ _ = answer_refused (c.taken + i) bytes (decode_of kind bytes) n (sym (room_answer bytes kind (c.taken + i) _ roomy) ∙ answer) in
-        let none : part ≡ onto [] (part_of b w) =
-        leaves ∙ room_leaves bytes kind (c.taken + i) (part_of b w) roomy ∙ ap (λ (d : Decoded). onto (record_bytes (c.taken + i) bytes d) (part_of b w)) is
-        in
-        ap (with_part b w) none ∙ part_front b [] w (omega (arith, enough))
+  -- nothing is written of an entry that has no record
+  pub unwritten : (n : Refusal) (part : List ℕ) → part ≡ write_leaves bytes kind r.core.taken (part_of b w)
+      → write_answer bytes kind r.core.taken (length (part_of b w)) ≡ Err n → with_part b w part ≡ b
+  unwritten n part leaves answer =
+      let is : decode_of kind bytes ≡ _ = answer_refused r.core.taken bytes (decode_of kind bytes) n (sym (room_answer bytes kind r.core.taken _ roomy) ∙ answer) in
+      let none : part ≡ onto [] (part_of b w) =
+      leaves ∙ room_leaves bytes kind r.core.taken (part_of b w) roomy ∙ ap (λ (d : Result DromEntry Refusal). onto (record_bytes r.core.taken bytes d) (part_of b w)) is
+      in
+      ap (with_part b w) none ∙ part_front b [] w (omega (arith, enough))
 
-    pub never : write_answer bytes kind (c.taken + i) (length (part_of b w)) ≡ written.NoRoom → ⊥
-    never answer = answer_room (c.taken + i) bytes (decode_of kind bytes) (sym (room_answer bytes kind (c.taken + i) _ roomy) ∙ answer)
-
-    -- a turn: an entry is recorded, and its bytes stand at the front of the pending ones
-    pub turned : (n count-put : ℕ) (part p' : List ℕ) → kind ≡ get_or ks (number_of bytes) 0 → length part ≡ length (part_of b w) → part ≡ write_leaves bytes kind (c.taken + i) (part_of b w)
-        → write_answer bytes kind (c.taken + i) (length (part_of b w)) ≡ written.Record n → Put bytes p p' count-put
-        → (n ≤ 4 * l) × Along r₀ xs (now_at (i + l) (count + 1) (w + n) p' (with_part b w part)) (i + l)
-    turned n count-put part p' listed lent leaves answer put =
-        let t : List ℕ = drop (suc i) xs in
-        let form : drop i xs ≡ l ∷ t = drop-cons xs i 0 (omega (arith, e.whole, e.some)) ∙ ap (λ (x : ℕ). x ∷ t) (sym e.here) in
-        let is : bytes ≡ take l (l ∷ t) = e.cut ∙ ap (take l) form in
-        let long : l ≤ length (l ∷ t) = omega (arith, ap length form, length-drop i xs, e.whole) in
-        let r : Run = now_at i count w p b in
-        let told = at_once r l t a.between e.some e.byte (omega (arith, a.left, e.whole)) long kind n part (rw is at listed) enough (rw is at leaves) (rw is at answer) in
-        let kept : p' ≡ sets p 0 (take l (l ∷ t)) = (put_once put (puts_sets bytes p (omega (arith, size, e.byte, a.between.long)))).0 ∙ ap (sets p 0) is in
-        let after : Run = now_at (i + l) (count + 1) (w + n) p' (with_part b w part) in
-        let led : after ≡ steps r (take l (l ∷ t)) =
-        ap₂ (λ (x y : ℕ). run (record { announced = c.announced; taken = x; refusal = c.refusal; offset = c.offset; register = c.register; fill = y; count = count + 1; written = w + n }) h p' ks (with_part b w part)) (omega arith) a.between.empty
-        ∙ ap (λ (v : List ℕ). run (record { announced = c.announced; taken = c.taken + i + l; refusal = c.refusal; offset = c.offset; register = c.register; fill = 0; count = count + 1; written = w + n }) h v ks (with_part b w part)) kept
-        ∙ sym told.1
-        in
-        let size' : length (with_part b w part) ≡ length b = part_same b part w (omega (arith, enough)) lent in (
-          told.0,
-          record {
-            same = led ∙ ap (λ (v : Run). steps v (take l (l ∷ t))) a.same ∙ sym (steps_append r₀ (take i xs) (take l (l ∷ t)))
-                ∙ ap (λ (v : List ℕ). steps r₀ (take i xs ++ v)) (sym (ap (take l) form)) ∙ ap (steps r₀) (sym (take-add i l xs));
-            taken = refl;
-            up = e.whole;
-            left = omega (arith, a.left, e.whole);
-            between = record { going = a.between.going; empty = a.between.empty; late = omega (arith, a.between.late); past = omega (arith, a.between.past); long = ap length kept ∙ length-sets p 0 (take l (l ∷ t)) ∙ a.between.long };
-            small = a.small;
-            fewer = omega (arith, a.fewer);
-            room = omega (arith, a.room, told.0, a.between.late);
-            lent = omega (arith, a.lent, size');
-            long = size' ∙ a.long;
-          },
-        )
+  -- a turn: an entry is recorded, and its bytes stand at the front of the pending ones
+  pub turned : (n count-put : ℕ) (part p' : List ℕ) → kind ≡ get_or r.kinds (number_of bytes) 0 → length part ≡ length (part_of b w) → part ≡ write_leaves bytes kind r.core.taken (part_of b w)
+      → write_answer bytes kind r.core.taken (length (part_of b w)) ≡ Ok n → Put bytes r.pending p' count-put
+      → (n ≤ 4 * l) × Along r₀ xs (run (passed r.core l n) r.header p' r.kinds (with_part b w part)) (i + l)
+  turned n count-put part p' listed lent leaves answer put =
+      let t : List ℕ = drop (suc i) xs in
+      let form : drop i xs ≡ l ∷ t = drop-cons xs i 0 (omega (arith, e.whole, e.some)) ∙ ap (λ (x : ℕ). x ∷ t) (sym e.here) in
+      let is : bytes ≡ take l (l ∷ t) = e.cut ∙ ap (take l) form in
+      let long : l ≤ length (l ∷ t) = omega (arith, ap length form, length-drop i xs, e.whole) in
+      let told = at_once r l t a.between e.some e.byte (omega (arith, a.left, e.whole)) long kind n part (rw is at listed) enough (rw is at leaves) (rw is at answer) in
+      let kept : p' ≡ sets r.pending 0 (take l (l ∷ t)) = (put_once put (puts_sets bytes r.pending (omega (arith, size, e.byte, a.between.long)))).0 ∙ ap (sets r.pending 0) is in
+      let after : Run = run (passed r.core l n) r.header p' r.kinds (with_part b w part) in
+      let led : after ≡ steps r (take l (l ∷ t)) =
+      ap (λ (y : ℕ). run (record { announced = r.core.announced; taken = r.core.taken + l; refusal = r.core.refusal; offset = r.core.offset; register = r.core.register; fill = y; count = r.core.count + 1; written = w + n }) r.header p' r.kinds (with_part b w part)) a.between.empty
+      ∙ ap (λ (v : List ℕ). run (record { announced = r.core.announced; taken = r.core.taken + l; refusal = r.core.refusal; offset = r.core.offset; register = r.core.register; fill = 0; count = r.core.count + 1; written = w + n }) r.header v r.kinds (with_part b w part)) kept
+      ∙ sym told.1
+      in
+      let size' : length (with_part b w part) ≡ length b = part_same b part w (omega (arith, enough)) lent in (
+        told.0,
+        record {
+          same = led ∙ ap (λ (v : Run). steps v (take l (l ∷ t))) a.same ∙ sym (steps_append r₀ (take i xs) (take l (l ∷ t)))
+              ∙ ap (λ (v : List ℕ). steps r₀ (take i xs ++ v)) (sym (ap (take l) form)) ∙ ap (steps r₀) (sym (take-add i l xs));
+          taken = omega (arith, a.taken);
+          up = e.whole;
+          left = omega (arith, a.left, e.whole);
+          between = record { going = a.between.going; empty = a.between.empty; late = omega (arith, a.between.late); past = omega (arith, a.between.past); long = ap length kept ∙ length-sets r.pending 0 (take l (l ∷ t)) ∙ a.between.long };
+          small = a.small;
+          fewer = omega (arith, a.fewer);
+          room = omega (arith, a.room, told.0, a.between.late);
+          lent = omega (arith, a.lent, size');
+          long = size' ∙ a.long;
+        },
+      )
 
 -- ---- the loop over a piece
 

@@ -7,12 +7,14 @@ use native.Mathlib.Omega.{arith}
 use lib.ListN.{length, get_or, take, drop, length-take, length-drop}
 use lib.Seq.{sets, sets-eq, take_all, drop-drop, drop-length}
 use Rattle.bits.specs.Front.{onto}
-use Rattle.entry.specs.declared.parse.Decoded.{Decoded}
+use Rattle.std.specs.Prelude.{Result, Ok, Err}
+use Rattle.entry.specs.declared.parse.DromEntry.{DromEntry}
+use Rattle.entry.specs.declared.refusal.Refusal.{Refusal}
+use Rattle.entry.specs.Refusals.{refusal_number}
 use Rattle.entry.specs.Decode.{number_of, decode_of}
 use Rattle.record.specs.Record.{record_of}
 use Rattle.record.specs.Write.{record_bytes, write_answer, write_leaves}
-use Rattle.record.specs.declared.write.Written.TheVariants as written
-use Rattle.record.proofs.WriteLaws.{room_answer, room_leaves, written_room, answer_record, answer_refused, answer_room}
+use Rattle.record.proofs.WriteLaws.{room_answer, room_leaves, written_room, answer_record, answer_refused}
 use Rattle.feed.specs.Run.{Run, run, refused, recorded, pending_entry, pending_at, ended}
 use Rattle.feed.proofs.StepLaws.{pending_is, ended_record, ended_refused}
 
@@ -72,7 +74,7 @@ module _ (r : Run) (kind : ℕ) (part : List ℕ) (listed : kind ≡ get_or r.ki
   is_kind : decode_of kind (pending_entry r) ≡ pending_is r
   is_kind = ap (λ (k : ℕ). decode_of k (pending_entry r)) listed
 
-  pub written_record : (n : ℕ) → write_answer (pending_entry r) kind (pending_at r.core) (length (part_of r.buffer r.core.written)) ≡ written.Record n
+  pub written_record : (n : ℕ) → write_answer (pending_entry r) kind (pending_at r.core) (length (part_of r.buffer r.core.written)) ≡ Ok n
       → (n ≤ 4 * length (pending_entry r))
       × (ended r ≡ run (recorded r.core n) r.header r.pending r.kinds (with_part r.buffer r.core.written part))
   written_record n a =
@@ -80,7 +82,7 @@ module _ (r : Run) (kind : ℕ) (part : List ℕ) (listed : kind ≡ get_or r.ki
       let bytes : List ℕ = record_of (pending_at r.core) (pending_entry r) told.entry in
       let fits : length bytes ≤ 4 * length (pending_entry r) = written_room (pending_entry r) kind (pending_at r.core) told.entry told.is in
       let lent : part ≡ onto bytes (part_of r.buffer r.core.written) =
-      left ∙ ap (λ (d : Decoded). onto (record_bytes (pending_at r.core) (pending_entry r) d) (part_of r.buffer r.core.written)) told.is
+      left ∙ ap (λ (d : Result DromEntry Refusal). onto (record_bytes (pending_at r.core) (pending_entry r) d) (part_of r.buffer r.core.written)) told.is
       in
       let whole : with_part r.buffer r.core.written part ≡ sets r.buffer r.core.written bytes =
       ap (with_part r.buffer r.core.written) lent ∙ part_front r.buffer bytes r.core.written (omega arith)
@@ -91,18 +93,15 @@ module _ (r : Run) (kind : ℕ) (part : List ℕ) (listed : kind ≡ get_or r.ki
             ∙ ap (λ (x : List ℕ). run (recorded r.core n) r.header r.pending r.kinds x) (sym whole),
       )
 
-  pub written_refused : (n : ℕ) → write_answer (pending_entry r) kind (pending_at r.core) (length (part_of r.buffer r.core.written)) ≡ written.Refused n
-      → ended r ≡ run (refused r.core n (pending_at r.core)) r.header r.pending r.kinds (with_part r.buffer r.core.written part)
+  pub written_refused : (n : Refusal) → write_answer (pending_entry r) kind (pending_at r.core) (length (part_of r.buffer r.core.written)) ≡ Err n
+      → ended r ≡ run (refused r.core (refusal_number n) (pending_at r.core)) r.header r.pending r.kinds (with_part r.buffer r.core.written part)
   written_refused n a =
       let told = answer_refused (pending_at r.core) (pending_entry r) (decode_of kind (pending_entry r)) n (sym (room_answer (pending_entry r) kind (pending_at r.core) _ enough) ∙ a) in
       let lent : part ≡ onto [] (part_of r.buffer r.core.written) =
-      left ∙ ap (λ (d : Decoded). onto (record_bytes (pending_at r.core) (pending_entry r) d) (part_of r.buffer r.core.written)) told
+      left ∙ ap (λ (d : Result DromEntry Refusal). onto (record_bytes (pending_at r.core) (pending_entry r) d) (part_of r.buffer r.core.written)) told
       in
       let whole : with_part r.buffer r.core.written part ≡ r.buffer =
       ap (with_part r.buffer r.core.written) lent ∙ part_front r.buffer [] r.core.written (omega arith)
       in
       ended_refused r n (sym is_kind ∙ told)
-      ∙ ap (λ (x : List ℕ). run (refused r.core n (pending_at r.core)) r.header r.pending r.kinds x) (sym whole)
-
-  pub written_never : write_answer (pending_entry r) kind (pending_at r.core) (length (part_of r.buffer r.core.written)) ≡ written.NoRoom → ⊥
-  written_never a = answer_room (pending_at r.core) (pending_entry r) (decode_of kind (pending_entry r)) (sym (room_answer (pending_entry r) kind (pending_at r.core) _ enough) ∙ a)
+      ∙ ap (λ (x : List ℕ). run (refused r.core (refusal_number n) (pending_at r.core)) r.header r.pending r.kinds x) (sym whole)

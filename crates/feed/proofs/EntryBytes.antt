@@ -12,7 +12,7 @@ use lib.Dec.{eqb}
 use borrow.Author.Tests.{eqb-true, eqb-false}
 use Rattle.entry.specs.Decode.{number_of}
 use Rattle.record.specs.Write.{write_answer, write_leaves}
-use Rattle.record.specs.declared.write.Written.TheVariants as written
+use Rattle.std.specs.Prelude.{Ok}
 use Rattle.drom.specs.Header.{body_start}
 use Rattle.feed.specs.declared.feeding.Core.{Core}
 use Rattle.feed.specs.Run.{Run, run, with_pending, recorded, pending_entry, pending_at, ended, step_of, steps}
@@ -173,7 +173,7 @@ module _ (r : Run) (l : ℕ) (t : List ℕ) (q : Between r) (z : 0 < l) (b : l <
   -- an entry whose record was written at once to the part of the buffer behind the others
   pub at_once : (kind n : ℕ) (part : List ℕ) → kind ≡ get_or r.kinds (number_of e) 0 → r.core.written + 4 * l ≤ length r.buffer
       → part ≡ write_leaves e kind r.core.taken (part_of r.buffer r.core.written)
-      → write_answer e kind r.core.taken (length (part_of r.buffer r.core.written)) ≡ written.Record n
+      → write_answer e kind r.core.taken (length (part_of r.buffer r.core.written)) ≡ Ok n
       → (n ≤ 4 * l) × (steps r e ≡ run (recorded (far r.core (r.core.taken + l) m) n) r.header (sets r.pending 0 e) r.kinds (with_part r.buffer r.core.written part))
   at_once kind n part listed room leaves answer =
       let lent : whole.core.written + 4 * l ≤ length whole.buffer = room in

@@ -11,8 +11,10 @@ use borrow.Author.Tests.{eqb-true, eqb-false, lt-ltb}
 use lib.Dec.{ltb, eqb}
 use lib.ListN.{length, get_or, set, take, drop, length-set, length-replicate, get_or-replicate}
 use lib.Seq.{get_or-set_same, get_or-set_other}
-use Rattle.entry.specs.declared.parse.Decoded.{Decoded}
-use Rattle.entry.specs.declared.parse.Decoded.TheVariants.{Refused}
+use Rattle.std.specs.Prelude.{Result, Err}
+use Rattle.entry.specs.declared.parse.DromEntry.{DromEntry}
+use Rattle.entry.specs.declared.refusal.Refusal.{Refusal}
+use Rattle.entry.specs.declared.refusal.Refusal.TheVariants.{ZeroLength, PastEnd}
 use Rattle.entry.specs.Adapters.{other, kind_in}
 use Rattle.entry.specs.Decode.{number_of, decode_of}
 use Rattle.drom.specs.Walk.{entry_of, front_of, and_then, walk_by, walk_of}
@@ -66,7 +68,7 @@ module _ (kinds others : ℕ → ℕ) (same : Same kinds others) where
 
   front_same : (L : ℕ) (bs : List ℕ) → front_of kinds L bs ≡ front_of others L bs
   unfolding front_of
-  front_same L bs = ap (λ (d : Decoded). cond (eqb L 0) (Refused 6) (cond (ltb (length bs) L) (Refused 7) d)) (entry_same (take L bs))
+  front_same L bs = ap (λ (d : Result DromEntry Refusal). cond (eqb L 0) (Err ZeroLength) (cond (ltb (length bs) L) (Err PastEnd) d)) (entry_same (take L bs))
 
   by_same : (turns at : ℕ) (bs : List ℕ) → walk_by turns kinds at bs ≡ walk_by turns others at bs
   unfolding walk_by

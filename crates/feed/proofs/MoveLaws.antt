@@ -10,8 +10,9 @@ use native.Mathlib.Omega.{arith}
 use lib.Dec.{ltb, eqb}
 use lib.ListN.{length, get_or, set}
 use lib.Seq.{length-sets}
-use Rattle.entry.specs.declared.parse.Decoded.{Decoded}
-use Rattle.entry.specs.declared.parse.Decoded.TheVariants.{Is, Refused}
+use Rattle.std.specs.Prelude.{Result, Ok, Err}
+use Rattle.entry.specs.declared.parse.DromEntry.{DromEntry}
+use Rattle.entry.specs.declared.refusal.Refusal.{Refusal}
 use Rattle.entry.specs.Decode.{number_of, decode_of}
 use Rattle.record.specs.Record.{record_of}
 use Rattle.drom.specs.Header.{body_start}
@@ -37,9 +38,9 @@ either : (c : ℕ) (t : Bool) (a b a' b' : Run) → a' ≡ with_register a c →
 either c true a b a' b' p q = p
 either c false a b a' b' p q = q
 
-ended_by_beside : (r : Run) (c : ℕ) (d : Decoded) → ended_by (with_register r c) d ≡ with_register (ended_by r d) c
-ended_by_beside r c (Is e) = refl
-ended_by_beside r c (Refused n) = refl
+ended_by_beside : (r : Run) (c : ℕ) (d : Result DromEntry Refusal) → ended_by (with_register r c) d ≡ with_register (ended_by r d) c
+ended_by_beside r c (Ok e) = refl
+ended_by_beside r c (Err n) = refl
 
 ended_beside : (r : Run) (c : ℕ) → ended (with_register r c) ≡ with_register (ended r) c
 unfolding ended
@@ -93,9 +94,9 @@ either_kept : (r : Run) (t : Bool) (a b : Run) → Kept r a → Kept r b → Kep
 either_kept r true a b p q = p
 either_kept r false a b p q = q
 
-ended_by_keeps : (r : Run) (d : Decoded) → Kept r (ended_by r d)
-ended_by_keeps r (Is e) = (refl, refl, length-sets r.buffer r.core.written (record_of (pending_at r.core) (pending_entry r) e))
-ended_by_keeps r (Refused n) = (refl, refl, refl)
+ended_by_keeps : (r : Run) (d : Result DromEntry Refusal) → Kept r (ended_by r d)
+ended_by_keeps r (Ok e) = (refl, refl, length-sets r.buffer r.core.written (record_of (pending_at r.core) (pending_entry r) e))
+ended_by_keeps r (Err n) = (refl, refl, refl)
 
 ended_keeps : (r : Run) → Kept r (ended r)
 unfolding ended

@@ -13,9 +13,11 @@ use lib.Seq.{length-take-le, take-append-le, drop-append-le}
 use lib.Dec.{ltb, eqb}
 use borrow.Author.Tests.{ltb-true, ltb-false, eqb-true, eqb-false}
 use Rattle.bits.specs.Bits.{le2}
+use Rattle.std.specs.Prelude.{Result, Ok, Err}
 use Rattle.entry.specs.declared.parse.DromEntry.{DromEntry}
-use Rattle.entry.specs.declared.parse.Decoded.{Decoded}
-use Rattle.entry.specs.declared.parse.Decoded.TheVariants.{Is, Refused}
+use Rattle.entry.specs.declared.refusal.Refusal.{Refusal}
+use Rattle.entry.specs.declared.refusal.Refusal.TheVariants.{ZeroLength, PastEnd}
+use Rattle.entry.specs.Refusals.{refusal_number}
 use Rattle.record.specs.Record.{record_of}
 use Rattle.drom.specs.Numbers.{first_of}
 use Rattle.drom.specs.Header.{is_tbt3, body_start, header_number}
@@ -56,7 +58,7 @@ stopped bs n at =
     record { later = []; others = []; entries = refl; records = refl; incomplete = λ e es q. absurd (no_more e es q); refused = λ z. (refl, refl, refl, refl) }
 
 onward : (at l : ℕ) (bs : List ℕ) (d : DromEntry) (p w : Walked) → l ≤ length bs → Begins (drop l bs) p w
-    → Begins bs (and_then at (take l bs) (Is d) p) (and_then at (take l bs) (Is d) w)
+    → Begins bs (and_then at (take l bs) (Ok d) p) (and_then at (take l bs) (Ok d) w)
 unfolding flatten
 onward at l bs d p w n b =
     record {
@@ -73,13 +75,13 @@ onward at l bs d p w n b =
 
 module _ (kinds : ℕ → ℕ) where
   -- the first entry of a walk is as long as its first byte says
-  first_on : (at L : ℕ) (bs e : List ℕ) (es : List (List ℕ)) → (d : Decoded) → front_of kinds L (L ∷ bs) ≡ d
+  first_on : (at L : ℕ) (bs e : List ℕ) (es : List (List ℕ)) → (d : Result DromEntry Refusal) → front_of kinds L (L ∷ bs) ≡ d
       → (and_then at (take L (L ∷ bs)) d (walk_of kinds (at + L) (drop L (L ∷ bs)))).entries ≡ e ∷ es → (length e ≡ L) × (0 < L)
-  first_on at L bs e es (Is x) f q =
+  first_on at L bs e es (Ok x) f q =
       let inside = front_inside kinds L (L ∷ bs) x f in
       let same : take L (L ∷ bs) ≡ e = ap (λ (v : List (List ℕ)). get_or v 0 []) q in
       (ap length (sym same) ∙ length-take-le L (L ∷ bs) inside.1, inside.0)
-  first_on at L bs e es (Refused n) f q = absurd (no_more e es q)
+  first_on at L bs e es (Err n) f q = absurd (no_more e es q)
 
   first : (at L : ℕ) (bs e : List ℕ) (es : List (List ℕ)) → (walk_of kinds at (L ∷ bs)).entries ≡ e ∷ es → (length e ≡ L) × (0 < L)
   first at L bs e es q = first_on at L bs e es (front_of kinds L (L ∷ bs)) refl (sym (ap (λ (w : Walked). w.entries) (walk_on kinds at L bs)) ∙ q)
@@ -105,17 +107,17 @@ module _ (kinds : ℕ → ℕ) where
     Goal : Type 0
     Goal = Begins xs (so_far_by (suc k) kinds at (length all) xs) (walk_of kinds at all)
 
-    front : (d : Decoded) → front_of kinds l all ≡ d → and_then at (take l all) d (walk_of kinds (at + l) (drop l all)) ≡ walk_of kinds at all
+    front : (d : Result DromEntry Refusal) → front_of kinds l all ≡ d → and_then at (take l all) d (walk_of kinds (at + l) (drop l all)) ≡ walk_of kinds at all
     unfolding all
-    front d e = ap (λ (x : Decoded). and_then at (take l all) x (walk_of kinds (at + l) (drop l all))) (sym e) ∙ sym (walk_on kinds at l (t ++ ys))
+    front d e = ap (λ (x : Result DromEntry Refusal). and_then at (take l all) x (walk_of kinds (at + l) (drop l all))) (sym e) ∙ sym (walk_on kinds at l (t ++ ys))
 
     six : l ≡ 0 → Goal
     unfolding Goal xs all
-    six z = subst₂ (Begins xs) (sym (so_six kinds k at (length all) l t z)) (front (Refused 6) (front_zero kinds l all z)) (stopped xs 6 at)
+    six z = subst₂ (Begins xs) (sym (so_six kinds k at (length all) l t z)) (front (Err ZeroLength) (front_zero kinds l all z)) (stopped xs 6 at)
 
     seven : (l ≡ 0 → ⊥) → length all < l → Goal
     unfolding Goal xs all
-    seven z p = subst₂ (Begins xs) (sym (so_seven kinds k at (length all) l t z p)) (front (Refused 7) (front_past kinds l all z p)) (stopped xs 7 at)
+    seven z p = subst₂ (Begins xs) (sym (so_seven kinds k at (length all) l t z p)) (front (Err PastEnd) (front_past kinds l all z p)) (stopped xs 7 at)
 
     part : (l ≡ 0 → ⊥) → l ≤ length all → length xs < l → Goal
     unfolding Goal xs all
@@ -123,7 +125,7 @@ module _ (kinds : ℕ → ℕ) where
         subst (λ (v : Walked). Begins xs v (walk_of kinds at all)) (sym (so_part kinds k at (length all) l t z p n))
         (nothing xs (walk_of kinds at all) (λ e es q. let m = first at l (t ++ ys) e es q in omega (arith, m.0)))
 
-    whole : (l ≡ 0 → ⊥) → l ≤ length all → l ≤ length xs → (d : Decoded) → entry_of kinds (take l xs) ≡ d → Goal
+    whole : (l ≡ 0 → ⊥) → l ≤ length all → l ≤ length xs → (d : Result DromEntry Refusal) → entry_of kinds (take l xs) ≡ d → Goal
     unfolding Goal xs all
     whole z p n d f =
         let same : take l all ≡ take l xs = take-append-le l xs ys n in
@@ -132,7 +134,7 @@ module _ (kinds : ℕ → ℕ) where
         let read : entry_of kinds (take l all) ≡ d = ap (entry_of kinds) same ∙ f in
         let left : so_far_by (suc k) kinds at (length all) xs ≡ and_then at (take l xs) d (so_far_by k kinds (at + l) (length (drop l xs ++ ys)) (drop l xs)) =
         so_entry kinds k at (length all) l t z p n
-        ∙ ap₂ (λ (x : Decoded) (m : ℕ). and_then at (take l xs) x (so_far_by k kinds (at + l) m (drop l xs))) f (sym size)
+        ∙ ap₂ (λ (x : Result DromEntry Refusal) (m : ℕ). and_then at (take l xs) x (so_far_by k kinds (at + l) m (drop l xs))) f (sym size)
         in
         let right : walk_of kinds at all ≡ and_then at (take l xs) d (walk_of kinds (at + l) (drop l xs ++ ys)) =
         sym (front d (front_whole kinds l all z p ∙ read))
@@ -140,10 +142,10 @@ module _ (kinds : ℕ → ℕ) where
         in
         subst₂ (Begins xs) (sym left) (sym right) (go d (ih (omega arith)))
       where
-        go : (d : Decoded) → Start k (at + l) (drop l xs) ys
+        go : (d : Result DromEntry Refusal) → Start k (at + l) (drop l xs) ys
             → Begins xs (and_then at (take l xs) d (so_far_by k kinds (at + l) (length (drop l xs ++ ys)) (drop l xs))) (and_then at (take l xs) d (walk_of kinds (at + l) (drop l xs ++ ys)))
-        go (Is e) b = onward at l xs e _ _ n b
-        go (Refused j) b = stopped xs j at
+        go (Ok e) b = onward at l xs e _ _ n b
+        go (Err j) b = stopped xs (refusal_number j) at
 
     turn : Goal
     turn = go (eqb l 0) refl

@@ -11,9 +11,10 @@ use lib.Seq.{sets, length-sets, take-length, length-take-le, get_or-drop}
 use lib.Dec.{ltb, eqb}
 use borrow.Author.Tests.{lt-ltb, le-ltb, eq-eqb, ne_eqb, ltb-true, ltb-false, eqb-true, eqb-false}
 use Rattle.bits.specs.Bits.{Bytes}
+use Rattle.std.specs.Prelude.{Result, Ok, Err}
 use Rattle.entry.specs.declared.parse.DromEntry.{DromEntry}
-use Rattle.entry.specs.declared.parse.Decoded.{Decoded}
-use Rattle.entry.specs.declared.parse.Decoded.TheVariants.{Is, Refused}
+use Rattle.entry.specs.declared.refusal.Refusal.{Refusal}
+use Rattle.entry.specs.Refusals.{refusal_number}
 use Rattle.entry.specs.Decode.{number_of, decode_of}
 use Rattle.entry.proofs.FitLaws.{refused_number}
 use Rattle.record.specs.Record.{record_of}
@@ -78,17 +79,17 @@ module _ (r : Run) (e : List ℕ) (c : Core) (p : List ℕ) (h : WholeAt r e c p
   whole : Run
   whole = run c r.header p r.kinds r.buffer
 
-  decoded : (d : Decoded) → entry_of (kinds_in r.kinds) e ≡ d → decode_of (get_or r.kinds (number_of (take (c.fill + 1) p)) 0) (take (c.fill + 1) p) ≡ d
+  decoded : (d : Result DromEntry Refusal) → entry_of (kinds_in r.kinds) e ≡ d → decode_of (get_or r.kinds (number_of (take (c.fill + 1) p)) 0) (take (c.fill + 1) p) ≡ d
   decoded d z = ap (entry_of (kinds_in r.kinds)) h.7 ∙ z
 
-  entered_at : (d : DromEntry) → entry_of (kinds_in r.kinds) e ≡ Is d → Entered r e d (ended whole)
+  entered_at : (d : DromEntry) → entry_of (kinds_in r.kinds) e ≡ Ok d → Entered r e d (ended whole)
   unfolding whole
   entered_at d z =
       let rc : record_of (pending_at c) (take (c.fill + 1) p) d ≡ record_of r.core.taken e d =
       ap (λ (v : List ℕ). record_of (pending_at c) v d) h.7 ∙ ap (λ (k : ℕ). record_of k e d) at
       in
       let q : ended whole ≡ run (recorded c (length (record_of r.core.taken e d))) r.header p r.kinds (sets r.buffer c.written (record_of r.core.taken e d)) =
-      ended_record whole d (decoded (Is d) z) ∙ ap (λ (v : List ℕ). run (recorded c (length v)) r.header p r.kinds (sets r.buffer c.written v)) rc
+      ended_record whole d (decoded (Ok d) z) ∙ ap (λ (v : List ℕ). run (recorded c (length v)) r.header p r.kinds (sets r.buffer c.written v)) rc
       in
       rw q
       record {
@@ -106,9 +107,9 @@ module _ (r : Run) (e : List ℕ) (c : Core) (p : List ℕ) (h : WholeAt r e c p
   Rejected n s =
       (s.core.refusal ≡ n) × (s.core.offset ≡ r.core.taken) × (s.core.count ≡ r.core.count) × (s.core.written ≡ r.core.written) × (s.buffer ≡ r.buffer)
 
-  rejected_at : (n : ℕ) → entry_of (kinds_in r.kinds) e ≡ Refused n → Rejected n (ended whole)
+  rejected_at : (n : Refusal) → entry_of (kinds_in r.kinds) e ≡ Err n → Rejected (refusal_number n) (ended whole)
   unfolding whole
-  rejected_at n z = rw (ended_refused whole n (decoded (Refused n) z)) (refl, at, h.2, h.3, refl)
+  rejected_at n z = rw (ended_refused whole n (decoded (Err n) z)) (refl, at, h.2, h.3, refl)
 
 -- the bytes of a whole entry lead to its end
 pub record Ended (r : Run) (e : List ℕ) : Type 0 where
@@ -161,7 +162,7 @@ quiet : (r s : Run) → Rest r → Still r s → Agrees r end s
 quiet r s q h = plain r s 0 0 (h.0 ∙ q.going) (h.1 ∙ q.nowhere) h.2 h.3 h.4
 
 -- an entry, and what comes after it
-onward : (r : Run) (e : List ℕ) (d : DromEntry) (r' : Run) (w : Walked) (s : Run) → Entered r e d r' → Agrees r' w s → Agrees r (and_then r.core.taken e (Is d) w) s
+onward : (r : Run) (e : List ℕ) (d : DromEntry) (r' : Run) (w : Walked) (s : Run) → Entered r e d r' → Agrees r' w s → Agrees r (and_then r.core.taken e (Ok d) w) s
 unfolding flatten
 onward r e d r' w s h g =
     let rc : List ℕ = record_of r.core.taken e d in
@@ -205,9 +206,9 @@ module _ (k : ℕ) (ih : (r : Run) (xs : List ℕ) → Agree k r xs) (r : Run) (
   Goal : Type 0
   Goal = Agrees r (so_far_by (suc k) (kinds_in r.kinds) r.core.taken (r.core.announced - r.core.taken) (l ∷ t)) (steps r (l ∷ t))
 
-  whole_turn : (l ≡ 0 → ⊥) → l ≤ r.core.announced - r.core.taken → l ≤ length (l ∷ t) → (d : Decoded) → entry_of (kinds_in r.kinds) (take l (l ∷ t)) ≡ d → Goal
+  whole_turn : (l ≡ 0 → ⊥) → l ≤ r.core.announced - r.core.taken → l ≤ length (l ∷ t) → (d : Result DromEntry Refusal) → entry_of (kinds_in r.kinds) (take l (l ∷ t)) ≡ d → Goal
   unfolding Goal whole
-  whole_turn z p n (Is d) ok =
+  whole_turn z p n (Ok d) ok =
       let xs : List ℕ = l ∷ t in
       let e : List ℕ = take l xs in
       let r' : Run = steps r e in
@@ -223,19 +224,19 @@ module _ (k : ℕ) (ih : (r : Run) (xs : List ℕ) → Agree k r xs) (r : Run) (
       (subst₂ (λ (x y : ℕ). Agrees r' (so_far_by k (kinds_in r'.kinds) x y (drop l xs)) (steps r' (drop l xs))) far lf g)
       in
       rw (so_entry (kinds_in r.kinds) k r.core.taken (r.core.announced - r.core.taken) l t z p n, ok)
-      (subst (λ (v : List ℕ). Agrees r (and_then r.core.taken e (Is d) (so_far_by k (kinds_in r.kinds) (r.core.taken + l) (r.core.announced - r.core.taken - l) (drop l xs))) (steps r v)) (take-append-drop l xs)
+      (subst (λ (v : List ℕ). Agrees r (and_then r.core.taken e (Ok d) (so_far_by k (kinds_in r.kinds) (r.core.taken + l) (r.core.announced - r.core.taken - l) (drop l xs))) (steps r v)) (take-append-drop l xs)
       (rw steps_append (onward r e d r' _ _ en g')))
-  whole_turn z p n (Refused j) bad =
+  whole_turn z p n (Err j) bad =
       let xs : List ℕ = l ∷ t in
       let e : List ℕ = take l xs in
       let r' : Run = steps r e in
       let en₀ : Ended r e = ending r l t q (b 0) (omega arith) p n in
-      let w = subst (Rejected r e en₀.core en₀.bytes en₀.all j) (sym en₀.is) (rejected_at r e en₀.core en₀.bytes en₀.all j bad) in
-      let some : 8 ≤ j = (refused_number (kinds_in r.kinds (number_of e)) e j bad).0 in
+      let w = subst (Rejected r e en₀.core en₀.bytes en₀.all (refusal_number j)) (sym en₀.is) (rejected_at r e en₀.core en₀.bytes en₀.all j bad) in
+      let some : 8 ≤ refusal_number j = (refused_number (kinds_in r.kinds (number_of e)) e j bad).0 in
       let m = stays r' (drop l xs) (λ v. omega (arith, w.0)) in
       rw (so_entry (kinds_in r.kinds) k r.core.taken (r.core.announced - r.core.taken) l t z p n, bad)
-      (subst (λ (v : List ℕ). Agrees r (stop j r.core.taken) (steps r v)) (take-append-drop l xs)
-      (rw steps_append (plain r (steps r' (drop l xs)) j r.core.taken (m.0 ∙ w.0) (m.1 ∙ w.1) (m.2 ∙ w.2) (m.3 ∙ w.3) (m.4 ∙ w.4))))
+      (subst (λ (v : List ℕ). Agrees r (stop (refusal_number j) r.core.taken) (steps r v)) (take-append-drop l xs)
+      (rw steps_append (plain r (steps r' (drop l xs)) (refusal_number j) r.core.taken (m.0 ∙ w.0) (m.1 ∙ w.1) (m.2 ∙ w.2) (m.3 ∙ w.3) (m.4 ∙ w.4))))
 
   part_turn : (l ≡ 0 → ⊥) → l ≤ r.core.announced - r.core.taken → length (l ∷ t) < l → Goal
   unfolding Goal

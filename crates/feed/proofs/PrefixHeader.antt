@@ -1,23 +1,25 @@
 -- From an opening on: whatever bytes come, count, written, refusal, offset and every byte of the buffer are what the definition of a
 -- prefix says of those bytes (`all_agree`); and the header that is kept is their first 16 (`header_is`).
 -- Assumes nothing.
-use Prim.Native.Nat.{ℕ, zero, suc, ◌+◌, ◌-◌, ◌%◌, ◌≤◌, ◌<◌}
+use Prim.Native.Nat.{ℕ, zero, suc, ◌+◌, ◌-◌, ◌≤◌, ◌<◌}
 use mathlib.Core.Path.{◌≡◌, refl, sym, ap, ap₂, subst, subst₂, ◌∙◌}
 use mathlib.Core.List.{List, [], ◌∷◌, ◌++◌, flatten}
 use mathlib.Core.Bool.{Bool, true, false, cond, not, ◌&&◌}
 use native.Mathlib.Omega.{arith}
 use native.Mathlib.Numerals.{add-one}
 use lib.ListN.{length, get_or, set, take, drop, take-append-drop, length-drop, drop_of_length-le}
-use lib.Seq.{sets, take-suc, take_all, length-take-le, length-sets, get_or-take, get_or-drop, drop-drop}
+use lib.Seq.{sets, take-suc, take_all, length-take-le, length-sets, get_or-drop, drop-drop}
 use lib.Dec.{ltb, eqb}
 use borrow.Author.Tests.{ltb-true, ltb-false, eqb-true, eqb-false}
-use Rattle.bits.specs.Bits.{le2, Bytes}
+use Rattle.bits.specs.Bits.{Bytes}
 use Rattle.drom.specs.Numbers.{first_of}
-use Rattle.drom.specs.Header.{length_in, is_tbt3, body_start, header_number}
+use Rattle.drom.specs.declared.header.HeaderValues.{HeaderValues}
+use Rattle.drom.specs.Header.{is_tbt3, body_start, header_number}
 use Rattle.drom.specs.Walk.{Walked, end, stop}
 use Rattle.feed.specs.declared.feeding.Core.{Core}
 use Rattle.feed.specs.Run.{Run, run, with_pending, counted, refused, judged, ended, kept, step_of, steps}
 use Rattle.feed.specs.Prefix.{so_far_by, prefix_of}
+use Rattle.drom.proofs.HeaderLaws.{first_16}
 use Rattle.feed.proofs.StepLaws.{next, ended_cases, kept_cases, step_cases, step_header, step_judge, step_skip, judged_is, steps_nil, steps_cons, steps_append}
 use Rattle.feed.proofs.MoveLaws.{step_moves}
 use Rattle.feed.proofs.EntryBytes.{sets_append, take_sets}
@@ -59,18 +61,9 @@ skipping r (y ∷ ys) h u k =
 sets_whole : (p e : List ℕ) → length e ≡ length p → sets p 0 e ≡ e
 sets_whole p e h = sym (take_all (length e) (sets p 0 e) (omega (arith, length-sets p 0 e))) ∙ take_sets p e (omega arith)
 
-pub length_of : (xs : List ℕ) → length_in (take 16 xs) ≡ length_in xs
-length_of xs = ap₂ (λ (a b : ℕ). le2 a b % 4096) (get_or-take 16 xs 14 0 (omega arith)) (get_or-take 16 xs 15 0 (omega arith))
-
-pub tbt3_of : (xs : List ℕ) → is_tbt3 (take 16 xs) ≡ is_tbt3 xs
-tbt3_of xs = ap (λ (v : ℕ). ltb v 3) (get_or-take 16 xs 13 0 (omega arith))
-
-pub start_of : (xs : List ℕ) → body_start (take 16 xs) ≡ body_start xs
-start_of xs = ap (λ (t : Bool). cond t 22 16) (tbt3_of xs)
-
 number_of : (size : ℕ) (xs : List ℕ) → header_number size (take 16 xs) ≡ header_number size xs
 number_of size xs =
-    ap₂ (λ (n : ℕ) (t : Bool). first_of ((not (eqb (n + 13) size), 2) ∷ (t && ltb size 22, 3) ∷ [])) (length_of xs) (tbt3_of xs)
+    ap (λ (h : HeaderValues). first_of ((not (eqb (h.length + 13) size), 2) ∷ (ltb h.version 3 && ltb size 22, 3) ∷ [])) (first_16 xs)
 
 pub start_least : (xs : List ℕ) → 16 ≤ body_start xs
 start_least xs = go (is_tbt3 xs)
@@ -257,7 +250,7 @@ module _ (r : Run) (xs : List ℕ) (h : r.core.refusal ≡ 0) (o : r.core.offset
         (cond t (so_far_by (length xs) (kinds_in r.kinds) (body_start xs) (r.core.announced - body_start xs) (drop (body_start xs) xs))
         (stop (header_number r.core.announced xs) 0)) (steps r xs)
     unfolding Goal
-    judged_agree true e = body (eqb-true (header_number r.core.announced xs) 0 e) (body_start xs) (start_of xs) (start_least xs)
+    judged_agree true e = body (eqb-true (header_number r.core.announced xs) 0 e) (body_start xs) (ap (λ (h : HeaderValues). h.start) (first_16 xs)) (start_least xs)
     judged_agree false e = head_refused (eqb-false (header_number r.core.announced xs) 0 e)
 
   -- for a run from an opening: what the definition of a prefix says of the bytes that are there

@@ -13,8 +13,11 @@ use lib.ListN.{length, take, drop, length-append, length-drop}
 use lib.Seq.{length-take-le}
 use lib.Dec.{ltb, eqb}
 use borrow.Author.Tests.{lt-ltb, le-ltb, eq-eqb, ne_eqb, ltb-true, ltb-false, eqb-true, eqb-false}
-use Rattle.entry.specs.declared.parse.Decoded.{Decoded}
-use Rattle.entry.specs.declared.parse.Decoded.TheVariants.{Is, Refused}
+use Rattle.std.specs.Prelude.{Result, Ok, Err}
+use Rattle.entry.specs.declared.parse.DromEntry.{DromEntry}
+use Rattle.entry.specs.declared.refusal.Refusal.{Refusal}
+use Rattle.entry.specs.declared.refusal.Refusal.TheVariants.{ZeroLength, PastEnd}
+use Rattle.entry.specs.Refusals.{refusal_number}
 use Rattle.entry.specs.Decode.{number_of}
 use Rattle.entry.proofs.FitLaws.{refused_number}
 use Rattle.record.specs.Record.{record_of}
@@ -63,7 +66,7 @@ module _ (size : ℕ) (kinds : ℕ → ℕ) (bs : List ℕ) where
 -- a claim of a walk over bytes, the first of which is l
 module _ (P : Walked → Type 0) (kinds : ℕ → ℕ) (k at left l : ℕ) (t : List ℕ) where
   so_cases : P (stop 6 at) → P (stop 7 at) → P end
-      → (0 < l → l ≤ length (l ∷ t) → (d : Decoded) → entry_of kinds (take l (l ∷ t)) ≡ d → P (and_then at (take l (l ∷ t)) d (so_far_by k kinds (at + l) (left - l) (drop l (l ∷ t)))))
+      → (0 < l → l ≤ length (l ∷ t) → (d : Result DromEntry Refusal) → entry_of kinds (take l (l ∷ t)) ≡ d → P (and_then at (take l (l ∷ t)) d (so_far_by k kinds (at + l) (left - l) (drop l (l ∷ t)))))
       → P (so_far_by (suc k) kinds at left (l ∷ t))
   so_cases six seven part whole = go (eqb l 0) refl
     where
@@ -89,7 +92,7 @@ module _ (kinds others : ℕ → ℕ) (same : Same kinds others) where
   so_same zero at left bs = refl
   so_same (suc k) at left [] = refl
   so_same (suc k) at left (l ∷ t) =
-      ap₂ (λ (d : Decoded) (w : Walked). cond (eqb l 0) (stop 6 at) (cond (ltb left l) (stop 7 at) (cond (ltb (length (l ∷ t)) l) end (and_then at (take l (l ∷ t)) d w))))
+      ap₂ (λ (d : Result DromEntry Refusal) (w : Walked). cond (eqb l 0) (stop 6 at) (cond (ltb left l) (stop 7 at) (cond (ltb (length (l ∷ t)) l) end (and_then at (take l (l ∷ t)) d w))))
       (entry_same kinds others same (take l (l ∷ t))) (so_same k (at + l) (left - l) (drop l (l ∷ t)))
 
   pub prefix_same : (size : ℕ) (bs : List ℕ) → prefix_of kinds size bs ≡ prefix_of others size bs
@@ -101,10 +104,10 @@ module _ (kinds others : ℕ → ℕ) (same : Same kinds others) where
 module _ (kinds : ℕ → ℕ) where
   -- ---- how much it writes
 
-  room_on : (at l : ℕ) (t : List ℕ) (w : Walked) → 0 < l → l ≤ length (l ∷ t) → length (flatten w.records) ≤ 4 * length (drop l (l ∷ t)) → (d : Decoded)
+  room_on : (at l : ℕ) (t : List ℕ) (w : Walked) → 0 < l → l ≤ length (l ∷ t) → length (flatten w.records) ≤ 4 * length (drop l (l ∷ t)) → (d : Result DromEntry Refusal)
       → entry_of kinds (take l (l ∷ t)) ≡ d → length (flatten (and_then at (take l (l ∷ t)) d w).records) ≤ 4 * length (l ∷ t)
   unfolding flatten
-  room_on at l t w z n h (Is e) ok =
+  room_on at l t w z n h (Ok e) ok =
       let piece : List ℕ = take l (l ∷ t) in
       omega (
         arith,
@@ -113,7 +116,7 @@ module _ (kinds : ℕ → ℕ) where
         length-take-le l (l ∷ t) n,
         length-drop l (l ∷ t),
       )
-  room_on at l t w z n h (Refused j) bad = omega arith
+  room_on at l t w z n h (Err j) bad = omega arith
 
   pub so_room : (k at left : ℕ) (bs : List ℕ) → length (flatten (so_far_by k kinds at left bs).records) ≤ 4 * length bs
   unfolding so_far_by flatten
@@ -136,10 +139,10 @@ module _ (kinds : ℕ → ℕ) where
 
   -- ---- its number
 
-  number_on : (at : ℕ) (bs : List ℕ) (w : Walked) → (w.number ≡ 0) ⊎ (6 ≤ w.number) → (d : Decoded) → entry_of kinds bs ≡ d
+  number_on : (at : ℕ) (bs : List ℕ) (w : Walked) → (w.number ≡ 0) ⊎ (6 ≤ w.number) → (d : Result DromEntry Refusal) → entry_of kinds bs ≡ d
       → ((and_then at bs d w).number ≡ 0) ⊎ (6 ≤ (and_then at bs d w).number)
-  number_on at bs w h (Is e) ok = h
-  number_on at bs w h (Refused n) bad = let m : 8 ≤ n = (refused_number (kinds (number_of bs)) bs n bad).0 in inr (omega arith)
+  number_on at bs w h (Ok e) ok = h
+  number_on at bs w h (Err n) bad = let m : 8 ≤ refusal_number n = (refused_number (kinds (number_of bs)) bs n bad).0 in inr (omega arith)
 
   pub so_number : (k at left : ℕ) (bs : List ℕ) → ((so_far_by k kinds at left bs).number ≡ 0) ⊎ (6 ≤ (so_far_by k kinds at left bs).number)
   unfolding so_far_by
@@ -159,12 +162,12 @@ module _ (kinds : ℕ → ℕ) where
       xs : List ℕ
       xs = l ∷ t
 
-      front : (d : Decoded) → front_of kinds l xs ≡ d → and_then at (take l xs) d (walk_of kinds (at + l) (drop l xs)) ≡ walk_of kinds at xs
-      front d e = ap (λ (x : Decoded). and_then at (take l xs) x (walk_of kinds (at + l) (drop l xs))) (sym e) ∙ sym (walk_on kinds at l t)
+      front : (d : Result DromEntry Refusal) → front_of kinds l xs ≡ d → and_then at (take l xs) d (walk_of kinds (at + l) (drop l xs)) ≡ walk_of kinds at xs
+      front d e = ap (λ (x : Result DromEntry Refusal). and_then at (take l xs) x (walk_of kinds (at + l) (drop l xs))) (sym e) ∙ sym (walk_on kinds at l t)
 
       go₁ : (l ≡ 0 → ⊥) → so_far_by k kinds (at + l) (length (l ∷ t) - l) (drop l (l ∷ t)) ≡ walk_of kinds (at + l) (drop l (l ∷ t)) ⊎ (l ≡ 0)
           → (u : Bool) → ltb (length xs) l ≡ u → so_far_by (suc k) kinds at (length xs) xs ≡ walk_of kinds at xs
-      go₁ z h true e = so_seven kinds k at (length xs) l t z (ltb-true (length xs) l e) ∙ front (Refused 7) (front_past kinds l xs z (ltb-true (length xs) l e))
+      go₁ z h true e = so_seven kinds k at (length xs) l t z (ltb-true (length xs) l e) ∙ front (Err PastEnd) (front_past kinds l xs z (ltb-true (length xs) l e))
       go₁ z (inr y) false e = absurd (z y)
       go₁ z (inl h) false e =
           let n = ltb-false (length xs) l e in
@@ -174,7 +177,7 @@ module _ (kinds : ℕ → ℕ) where
 
       go : so_far_by k kinds (at + l) (length (l ∷ t) - l) (drop l (l ∷ t)) ≡ walk_of kinds (at + l) (drop l (l ∷ t)) ⊎ (l ≡ 0)
           → (u : Bool) → eqb l 0 ≡ u → so_far_by (suc k) kinds at (length xs) xs ≡ walk_of kinds at xs
-      go h true e = so_six kinds k at (length xs) l t (eqb-true l 0 e) ∙ front (Refused 6) (front_zero kinds l xs (eqb-true l 0 e))
+      go h true e = so_six kinds k at (length xs) l t (eqb-true l 0 e) ∙ front (Err ZeroLength) (front_zero kinds l xs (eqb-true l 0 e))
       go h false e = go₁ (eqb-false l 0 e) h (ltb (length xs) l) refl
 
   none : (at : ℕ) → end ≡ walk_of kinds at []

@@ -9,9 +9,10 @@ use lib.ListN.{length, get_or, set, length-set}
 use lib.Seq.{sets, length-sets, length-take-le}
 use lib.Dec.{ltb, eqb}
 use borrow.Author.Tests.{lt-ltb, le-ltb, eq-eqb, ne_eqb, ltb-true, ltb-false, eqb-true, eqb-false}
+use Rattle.std.specs.Prelude.{Result, Ok, Err}
 use Rattle.entry.specs.declared.parse.DromEntry.{DromEntry}
-use Rattle.entry.specs.declared.parse.Decoded.{Decoded}
-use Rattle.entry.specs.declared.parse.Decoded.TheVariants.{Is, Refused}
+use Rattle.entry.specs.declared.refusal.Refusal.{Refusal}
+use Rattle.entry.specs.Refusals.{refusal_number}
 use Rattle.entry.specs.Decode.{number_of, decode_of}
 use Rattle.entry.proofs.FitLaws.{refused_number}
 use Rattle.record.specs.Record.{record_of}
@@ -30,31 +31,31 @@ next r = with_core r (counted r.core)
 -- ---- an entry that is whole
 
 -- what the pending entry decodes to
-abbrev pub pending_is : Run → Decoded
+abbrev pub pending_is : Run → Result DromEntry Refusal
 pending_is r = decode_of (get_or r.kinds (number_of (pending_entry r)) 0) (pending_entry r)
 
 abbrev pub pending_record : Run → DromEntry → List ℕ
 pending_record r e = record_of (pending_at r.core) (pending_entry r) e
 
 module _ (r : Run) where
-  pub ended_record : (e : DromEntry) → pending_is r ≡ Is e
+  pub ended_record : (e : DromEntry) → pending_is r ≡ Ok e
       → ended r ≡ run (recorded r.core (length (pending_record r e))) r.header r.pending r.kinds (sets r.buffer r.core.written (pending_record r e))
   unfolding ended
   ended_record e d = ap (ended_by r) d
 
-  pub ended_refused : (n : ℕ) → pending_is r ≡ Refused n → ended r ≡ with_core r (refused r.core n (pending_at r.core))
+  pub ended_refused : (n : Refusal) → pending_is r ≡ Err n → ended r ≡ with_core r (refused r.core (refusal_number n) (pending_at r.core))
   unfolding ended
   ended_refused n d = ap (ended_by r) d
 
   pub ended_cases : (P : Run → Type 0)
-      → ((e : DromEntry) → pending_is r ≡ Is e → P (run (recorded r.core (length (pending_record r e))) r.header r.pending r.kinds (sets r.buffer r.core.written (pending_record r e))))
-      → ((n : ℕ) → pending_is r ≡ Refused n → P (with_core r (refused r.core n (pending_at r.core))))
+      → ((e : DromEntry) → pending_is r ≡ Ok e → P (run (recorded r.core (length (pending_record r e))) r.header r.pending r.kinds (sets r.buffer r.core.written (pending_record r e))))
+      → ((n : Refusal) → pending_is r ≡ Err n → P (with_core r (refused r.core (refusal_number n) (pending_at r.core))))
       → P (ended r)
   ended_cases P f g = go (pending_is r) refl
     where
-      go : (d : Decoded) → pending_is r ≡ d → P (ended r)
-      go (Is e) q = rw (ended_record e q) (f e q)
-      go (Refused n) q = rw (ended_refused n q) (g n q)
+      go : (d : Result DromEntry Refusal) → pending_is r ≡ d → P (ended r)
+      go (Ok e) q = rw (ended_record e q) (f e q)
+      go (Err n) q = rw (ended_refused n q) (g n q)
 
 -- ---- a byte of an entry
 

@@ -23,25 +23,15 @@ pub record Good (r : Run) : Type 0 where
   pub table : length r.kinds ≡ 64
   pub lent : 16368 ≤ length r.buffer
 
--- the same run, whatever the header: an entry's bytes do not touch it
-abbrev pub AnyHeader : (List ℕ → Run) → (List ℕ → Run) → Type 0
-AnyHeader f g = (h : List ℕ) → f h ≡ g h
+-- a byte of an entry can be kept, and there is room for the record, should the entry be whole with it
+pub record Ending (r : Run) : Type 0 where
+  pub filling : r.core.fill ≤ 254
+  pub counted : r.core.fill < r.core.taken
+  pub room : r.core.written + 4 * (r.core.fill + 1) ≤ length r.buffer
+  pub few : r.core.count < 20000
+  pub small : r.core.written < 20000
 
 -- k bytes at the front of a piece lead from a run to another
 pub record Through (r : Run) (piece : List ℕ) (k : ℕ) (r' : Run) : Type 0 where
   pub same : r' ≡ steps r (take k piece)
   pub within : k ≤ length piece
-
--- whole entries were taken at once: i bytes, and so many records and record bytes in all
-abbrev pub passed : Core → ℕ → ℕ → ℕ → Core
-passed c i count written =
-    record {
-      announced = c.announced;
-      taken = c.taken + i;
-      refusal = c.refusal;
-      offset = c.offset;
-      register = c.register;
-      fill = c.fill;
-      count = count;
-      written = written;
-    }

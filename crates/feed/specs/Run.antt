@@ -1,10 +1,11 @@
 -- Document 01, "Feeding": what a reader that is fed has in hand, and what one byte does to it.
 -- Assumes nothing.
-use Rattle.std.specs.Prelude.{cond, List, [], ◌∷◌, ℕ, ◌+◌, ◌-◌, ltb, eqb, length, get_or, set, take}
+use Rattle.std.specs.Prelude.{cond, Result, Ok, Err, List, [], ◌∷◌, ℕ, ◌+◌, ◌-◌, ltb, eqb, length, get_or, set, take}
 use Rattle.std.proofs.lemmas.List.Edits.{sets}
-use Rattle.entry.specs.declared.parse.Decoded.{Decoded}
-use Rattle.entry.specs.declared.parse.Decoded.TheVariants.{Is, Refused}
-use Rattle.entry.specs.Decode.{number_of, decode_of, decoded_number}
+use Rattle.entry.specs.declared.parse.DromEntry.{DromEntry}
+use Rattle.entry.specs.declared.refusal.Refusal.{Refusal}
+use Rattle.entry.specs.Refusals.{refusal_number}
+use Rattle.entry.specs.Decode.{number_of, decode_of}
 use Rattle.record.specs.Record.{record_of}
 use Rattle.drom.specs.Numbers.{zero_length, past_end}
 use Rattle.drom.specs.Header.{body_start, header_number}
@@ -93,11 +94,11 @@ abbrev pub pending_at : Core → ℕ
 pending_at c = c.taken - (c.fill + 1)
 
 -- the entry is whole: its record is written behind the others, or it is refused
-abbrev pub ended_by : Run → Decoded → Run
-ended_by r (Is e) =
+abbrev pub ended_by : Run → Result DromEntry Refusal → Run
+ended_by r (Ok e) =
     run (recorded r.core (length (record_of (pending_at r.core) (pending_entry r) e))) r.header r.pending r.kinds
     (sets r.buffer r.core.written (record_of (pending_at r.core) (pending_entry r) e))
-ended_by r (Refused n) = with_core r (refused r.core (decoded_number (Refused n)) (pending_at r.core))
+ended_by r (Err n) = with_core r (refused r.core (refusal_number n) (pending_at r.core))
 
 unfoldable pub ended : Run → Run
 ended r = ended_by r (decode_of (get_or r.kinds (number_of (pending_entry r)) 0) (pending_entry r))

@@ -1,21 +1,21 @@
 // A DROM that comes in pieces, cut anywhere: a state by value that takes the bytes in, and writes each record as its entry is whole.
-ghost use Rattle.std.specs.Prelude.{◌≡◌, true, ◌+◌, ◌-◌, ◌*◌, ◌%◌, ◌≤◌, ◌<◌, length, get_or, replicate};
+ghost use Rattle.std.specs.Prelude.{◌≡◌, true, ◌+◌, ◌-◌, ◌%◌, ◌≤◌, ◌<◌, length, get_or, replicate, IsTrue};
 ghost use Rattle.bits.specs.Front.{Put};
 ghost use Rattle.entry.specs.Decode.{number_of};
+ghost use Rattle.entry.specs.Refusals.{refusal_number, answer_number};
 ghost use Rattle.feed.specs.Kinds.{table_of};
-ghost use Rattle.feed.specs.Run.{run, judged, ended, kept, step_of, steps};
+ghost use Rattle.feed.specs.Run.{refused, ended, kept, step_of, steps};
 ghost use Rattle.feed.specs.Bounds.{in_bounds};
-ghost use Rattle.feed.specs.Loop.{Good, AnyHeader, Through, passed};
-ghost use Rattle.feed.specs.Feed.{fresh, open_of, register_after, state_of, state_after, both, answer, feed_of, told, finish_of};
+ghost use Rattle.feed.specs.Loop.{Good, Ending, Through};
+ghost use Rattle.feed.specs.Feed.{fresh, open_of, register_after, state_of, run_in, state_after, both, answer, feed_of, told, finish_of};
 
-use super::bounds::in_bounds;
 use drom::Report;
 use drom::header::{body_start, header_number};
-use record::Written;
+use entry::Refusal;
 
 // The numbers of a state. `fill` bytes of an entry are pending; `register` is CRC32's. The small ones stand last, so that a copy has
-// no gap in its middle.
-#[derive(Clone, Copy)]
+// no gap in its middle. `refusal` stays a number, 0 for none: a state is plain data, and C lends it as bytes.
+#[derive(Clone, Copy, Debug, PartialEq, Eq)]
 pub struct Core {
     pub announced: usize,
     pub taken: usize,
@@ -27,7 +27,8 @@ pub struct Core {
     pub refusal: u8,
 }
 
-#[derive(Clone, Copy)]
+// `fill` of `core` counts the bytes of `pending`: all of it is plain data, as C lends it.
+#[derive(Clone, Copy, Debug, PartialEq, Eq)]
 pub struct State {
     pub core: Core,
     pub header: [u8; 16],
@@ -35,131 +36,99 @@ pub struct State {
     pub kinds: [u8; 64],
 }
 
-// A feed's number, and the state that it leaves.
-#[derive(Clone, Copy)]
+// A feed's number, and the state that it leaves whatever the number is: `feed_of` (specs/Feed) is told in both.
+#[derive(Clone, Copy, Debug, PartialEq, Eq)]
 pub struct Fed {
     pub number: u8,
     pub state: State,
 }
 
-fn wide(x: u8) -> usize
-    ensures { result ≡ x }
-{
-    x as usize
-}
-
 // ---- one byte
 
-// The kind in the table for an entry's number: that of its second byte, or 0.
-fn kind_for(kinds: &[u8], entry: &[u8]) -> u8
-    requires { length kinds.now ≡ 64 }
+// The kind in the table for an entry's number: that of its second byte, or 0. A byte of the state's, which may be any.
+fn kind_for(kinds: &[u8; 64], entry: &[u8]) -> u8
     ensures { result ≡ get_or kinds.now (number_of entry.now) 0 }
 {
-    if entry.len() < 2 {
-        return kinds[0];
-    }
-    let number = wide(entry[1] % 64);
-    kinds[number]
+    kinds[usize::from(bits::byte_at(entry, 1) % 64)]
 }
 
-// Writes the record of the entry that is pending behind the others, or refuses it.
-fn complete(core: Core, pending: &[u8], kinds: &[u8], records: &mut [u8]) -> Core
-    requires { (length pending.now ≡ 255) × (length kinds.now ≡ 64) × (core.fill ≤ 254) × (core.fill < core.taken) × (core.written + 4 * (core.fill + 1) ≤ length records.old) × (core.written < 20000) × (core.count < 20000) }
-    ensures { AnyHeader (λ h. run result h pending.now kinds.now records.new) (λ h. ended (run core h pending.now kinds.now records.old)) }
-{
-    let end = core.fill + 1;
-    let at = core.taken - end;
-    let written = core.written;
-    let bytes = &pending[..end];
-    let kind = kind_for(kinds, bytes);
-    let mut c = core;
-    match record::write_by_row(bytes, kind, at, &mut records[written..]) {
-        Written::Record(n) => {
-            c.fill = 0;
-            c.count = core.count + 1;
-            c.written = written + n;
-            c
+impl State {
+    fn refuse(&mut self, refusal: Refusal, at: usize)
+        ensures { self.new ≡ state_of (refused self.old.core (refusal_number refusal) at) self.old.header self.old.pending self.old.kinds }
+    {
+        self.core.refusal = refusal.into();
+        self.core.offset = at;
+    }
+
+    // Writes the record of the entry that is pending behind the others, or refuses it.
+    fn complete(&mut self, records: &mut [u8])
+        requires { Ending (run_in self.old records.old) }
+        ensures { run_in self.new records.new ≡ ended (run_in self.old records.old) }
+    {
+        let end = self.core.fill + 1;
+        let at = self.core.taken - end;
+        let written = self.core.written;
+        let bytes = &self.pending[..end];
+        let kind = kind_for(&self.kinds, bytes);
+        match record::write_by_row(bytes, kind, at, &mut records[written..]) {
+            Ok(n) => {
+                self.core.fill = 0;
+                self.core.count += 1;
+                self.core.written = written + n;
+            }
+            // The bounds leave room for any entry, so that this is the entry's own refusal.
+            Err(refusal) => self.refuse(refusal, at),
         }
-        Written::Refused(number) => {
-            c.refusal = number;
-            c.offset = at;
-            c
+    }
+
+    // Keeps a byte of an entry; with its last, the entry is whole.
+    fn keep(&mut self, b: u8, records: &mut [u8])
+        requires { Ending (run_in self.old records.old) }
+        ensures { run_in self.new records.new ≡ kept (run_in self.old records.old) b }
+    {
+        let fill = self.core.fill;
+        self.pending[fill] = b;
+        let l = usize::from(self.pending[0]);
+        if fill + 1 < l {
+            self.core.fill = fill + 1;
+        } else {
+            self.complete(records);
         }
-        // The bounds leave room for any entry.
-        Written::NoRoom => c,
     }
-}
 
-// Keeps a byte of an entry; with its last, the entry is whole.
-fn keep(core: Core, b: u8, pending: &mut [u8], kinds: &[u8], records: &mut [u8]) -> Core
-    requires { (length pending.old ≡ 255) × (length kinds.now ≡ 64) × (core.fill ≤ 254) × (core.fill < core.taken) × (core.written + 4 * (core.fill + 1) ≤ length records.old) × (core.written < 20000) × (core.count < 20000) }
-    ensures { AnyHeader (λ h. run result h pending.new kinds.now records.new) (λ h. kept (run core h pending.old kinds.now records.old) b) }
-{
-    let fill = core.fill;
-    pending[fill] = b;
-    let l = wide(pending[0]);
-    if fill + 1 < l {
-        let mut c = core;
-        c.fill = fill + 1;
-        c
-    } else {
-        complete(core, pending, kinds, records)
+    fn step(&mut self, b: u8, records: &mut [u8])
+        requires { Good (run_in self.old records.old) × (self.old.core.taken < self.old.core.announced) }
+        ensures { run_in self.new records.new ≡ step_of (run_in self.old records.old) b }
+    {
+        let at = self.core.taken;
+        self.core.taken = at + 1;
+        if self.core.refusal != 0 {
+            return;
+        }
+        if at < 15 {
+            self.header[at] = b;
+            return;
+        }
+        if at == 15 {
+            self.header[at] = b;
+            self.core.refusal = header_number(&self.header, self.core.announced);
+            self.core.offset = 0;
+            return;
+        }
+        if at < body_start(&self.header) {
+            return;
+        }
+        if self.core.fill != 0 {
+            return self.keep(b, records);
+        }
+        if b == 0 {
+            return self.refuse(Refusal::ZeroLength, at);
+        }
+        if self.core.announced - at < usize::from(b) {
+            return self.refuse(Refusal::PastEnd, at);
+        }
+        self.keep(b, records);
     }
-}
-
-// Judges a header whose 16 bytes are in.
-fn judge(core: Core, header: &[u8]) -> Core
-    ensures { result ≡ judged core header.now }
-{
-    let mut c = core;
-    c.refusal = header_number(header, core.announced);
-    c.offset = 0;
-    c
-}
-
-fn step(
-    core: Core,
-    b: u8,
-    header: &mut [u8],
-    pending: &mut [u8],
-    kinds: &[u8],
-    records: &mut [u8],
-) -> Core
-    requires { Good (run core header.old pending.old kinds.now records.old) × (core.taken < core.announced) }
-    ensures { run result header.new pending.new kinds.now records.new ≡ step_of (run core header.old pending.old kinds.now records.old) b }
-{
-    let at = core.taken;
-    let fill = core.fill;
-    let mut c = core;
-    c.taken = at + 1;
-    if core.refusal != 0 {
-        return c;
-    }
-    if at < 15 {
-        header[at] = b;
-        return c;
-    }
-    if at == 15 {
-        header[at] = b;
-        return judge(c, header);
-    }
-    if at < body_start(header) {
-        return c;
-    }
-    if fill != 0 {
-        return keep(c, b, pending, kinds, records);
-    }
-    if b == 0 {
-        c.refusal = 6;
-        c.offset = at;
-        return c;
-    }
-    if core.announced - at < b as usize {
-        c.refusal = 7;
-        c.offset = at;
-        return c;
-    }
-    keep(c, b, pending, kinds, records)
 }
 
 // ---- a piece
@@ -168,225 +137,122 @@ fn step(
 fn register_after(register: u32, taken: usize, piece: &[u8]) -> u32
     ensures { result ≡ register_after register taken piece.now }
 {
-    if 13 <= taken {
-        return util::crc32_more(register, piece);
-    }
-    let skipped = 13 - taken;
-    if piece.len() <= skipped {
-        return register;
-    }
+    let skipped = 13_usize.saturating_sub(taken).min(piece.len());
     util::crc32_more(register, &piece[skipped..])
 }
 
-// The length of the entry at a place of a piece, where the piece has all of it, or 0.
-fn whole_at(piece: &[u8], i: usize) -> usize
+// Whether a piece has all of the entry at a place. A bool: with the length as an Option, one-byte entries take a quarter longer.
+fn has_whole(piece: &[u8], i: usize) -> bool
     requires { i < length piece.now }
-    ensures { 0 < result → (result ≡ get_or piece.now i 0) × (result < 256) × (i + result ≤ length piece.now) }
+    ensures { IsTrue result → (0 < get_or piece.now i 0) × (i + get_or piece.now i 0 ≤ length piece.now) }
 {
-    let l = wide(piece[i]);
-    if piece.len() - i < l { 0 } else { l }
+    let l = usize::from(piece[i]);
+    0 < l && l <= piece.len() - i
 }
 
 // The bytes of a whole entry, to the front of the pending ones. One of a single byte takes no call.
-fn keep_whole(bytes: &[u8], pending: &mut [u8]) -> usize
+fn keep_whole(bytes: &[u8], pending: &mut [u8; 255]) -> usize
     ensures { Put bytes.now pending.old pending.new result }
 {
-    if bytes.len() == 1 {
-        return bits::put1(bytes[0], pending);
+    match bytes {
+        [b] => bits::put([*b], pending),
+        _ => bits::put_all(bytes, pending),
     }
-    bits::put_all(bytes, pending)
 }
 
-// How far whole entries lead: so many bytes, and with them so many records and record bytes in all.
-#[derive(Drop)]
-struct Passed {
-    bytes: usize,
-    count: usize,
-    written: usize,
-}
-
-// The entries that a piece has whole at its front, up to one that is refused, without a step for each byte.
-fn take_entries(
-    core: Core,
-    header: &[u8],
-    piece: &[u8],
-    pending: &mut [u8],
-    kinds: &[u8],
-    records: &mut [u8],
-) -> Passed
-    requires { Good (run core header.now pending.old kinds.now records.old) × (core.refusal ≡ 0) × (core.fill ≡ 0) × (length piece.now ≤ core.announced - core.taken) }
-    ensures { Through (run core header.now pending.old kinds.now records.old) piece.now result.bytes (run (passed core result.bytes result.count result.written) header.now pending.new kinds.now records.new) }
-{
-    let mut i: usize = 0;
-    let mut count = core.count;
-    let mut written = core.written;
-    if core.taken < 16 {
-        return Passed {
-            bytes: 0,
-            count,
-            written,
-        };
-    }
-    if core.taken < body_start(header) {
-        return Passed {
-            bytes: 0,
-            count,
-            written,
-        };
-    }
-    while i < piece.len() {
-        let l = whole_at(piece, i);
-        if l == 0 {
-            return Passed {
-                bytes: i,
-                count,
-                written,
+impl State {
+    // The entries that a piece has whole at its front, up to one that is refused, without a step for each byte: how many bytes they are.
+    // The cursor moves by each entry's length.
+    fn take_entries(&mut self, piece: &[u8], records: &mut [u8]) -> usize
+        requires { Good (run_in self.old records.old) × (self.old.core.refusal ≡ 0) × (self.old.core.fill ≡ 0) × (length piece.now ≤ self.old.core.announced - self.old.core.taken) }
+        ensures { Through (run_in self.old records.old) piece.now result (run_in self.new records.new) }
+    {
+        if self.core.taken < 16 || self.core.taken < body_start(&self.header) {
+            return 0;
+        }
+        let mut i: usize = 0;
+        while i < piece.len() && has_whole(piece, i) {
+            let l = usize::from(piece[i]);
+            let end = i + l;
+            let bytes = &piece[i..end];
+            let at = self.core.taken;
+            let written = self.core.written;
+            let kind = kind_for(&self.kinds, bytes);
+            let Ok(n) = record::write_entry(bytes, kind, at, &mut records[written..]) else {
+                return i;
             };
+            keep_whole(bytes, &mut self.pending);
+            self.core.taken = at + l;
+            self.core.count += 1;
+            self.core.written = written + n;
+            i = end;
         }
-        let end = i + l;
-        let bytes = &piece[i..end];
-        let kind = kind_for(kinds, bytes);
-        match record::write_entry(bytes, kind, core.taken + i, &mut records[written..]) {
-            Written::Record(n) => {
-                keep_whole(bytes, pending);
-                i = end;
-                count += 1;
-                written += n;
-            }
-            Written::Refused(_) => {
-                return Passed {
-                    bytes: i,
-                    count,
-                    written,
-                };
-            }
-            Written::NoRoom => {
-                return Passed {
-                    bytes: i,
-                    count,
-                    written,
-                };
-            }
-        }
+        i
     }
-    Passed {
-        bytes: i,
-        count,
-        written,
-    }
-}
 
-// The loop over a piece. The entries that it has whole, and a byte in the middle of an entry, take no step.
-fn take_in(
-    first: Core,
-    header: &mut [u8],
-    piece: &[u8],
-    pending: &mut [u8],
-    kinds: &[u8],
-    records: &mut [u8],
-) -> Core
-    requires { (in_bounds first header.old pending.old ≡ true) × (length header.old ≡ 16) × (length pending.old ≡ 255) × (length kinds.now ≡ 64) × (16368 ≤ length records.old) × (length piece.now ≤ first.announced - first.taken) }
-    ensures state { state_of result header.new pending.new kinds.now ≡ state_after (steps (run first header.old pending.old kinds.now records.old) piece.now) (register_after first.register first.taken piece.now) }
-    ensures buffer { records.new ≡ (steps (run first header.old pending.old kinds.now records.old) piece.now).buffer }
-{
-    let register = register_after(first.register, first.taken, piece);
-    let mut core = first;
-    let mut i: usize = 0;
-    while i < piece.len() {
-        let at = core.taken;
-        let fill = core.fill;
-        if core.refusal != 0 {
-            core.taken = at + (piece.len() - i);
-            i = piece.len();
-            continue;
-        }
-        if fill == 0 {
-            let p = take_entries(core, header, &piece[i..], pending, kinds, records);
-            if p.bytes != 0 {
-                core.taken = at + p.bytes;
-                core.count = p.count;
-                core.written = p.written;
-                i += p.bytes;
+    // The loop over a piece, by a cursor: a turn moves over a byte, whole entries or all that is left. The entries that the piece has
+    // whole, and a byte in the middle of an entry, take no step.
+    fn take_in(&mut self, piece: &[u8], records: &mut [u8])
+        requires { (in_bounds self.old.core self.old.header self.old.pending ≡ true) × (16368 ≤ length records.old) × (length piece.now ≤ self.old.core.announced - self.old.core.taken) }
+        ensures state { self.new ≡ state_after (steps (run_in self.old records.old) piece.now) (register_after self.old.core.register self.old.core.taken piece.now) }
+        ensures buffer { records.new ≡ (steps (run_in self.old records.old) piece.now).buffer }
+    {
+        // That these are bytes is known to the proof once one of them is read.
+        let _first = self.pending[0];
+        let register = register_after(self.core.register, self.core.taken, piece);
+        let mut i: usize = 0;
+        while i < piece.len() {
+            let at = self.core.taken;
+            let fill = self.core.fill;
+            if self.core.refusal != 0 {
+                self.core.taken = at + (piece.len() - i);
+                i = piece.len();
                 continue;
             }
-        } else {
-            if fill + 1 < wide(pending[0]) {
-                // Where something is pending the header is in, and a body starts at 22 or before.
-                if 21 < at {
-                    pending[fill] = piece[i];
-                    core.taken = at + 1;
-                    core.fill = fill + 1;
-                    i += 1;
+            if fill == 0 {
+                let n = self.take_entries(&piece[i..], records);
+                if n != 0 {
+                    i += n;
                     continue;
                 }
+            } else if 21 < at && fill + 1 < usize::from(self.pending[0]) {
+                // Where something is pending the header is in, and a body starts at 22 or before.
+                self.pending[fill] = piece[i];
+                self.core.taken = at + 1;
+                self.core.fill = fill + 1;
+                i += 1;
+                continue;
             }
+            self.step(piece[i], records);
+            i += 1;
         }
-        core = step(core, piece[i], header, pending, kinds, records);
-        i += 1;
+        self.core.register = register;
     }
-    core.register = register;
-    core
 }
 
-// A feed's number, and the numbers of the state that it leaves.
-#[derive(Clone, Copy)]
-pub struct FedCore {
-    pub number: u8,
-    pub core: Core,
-}
-
-// Takes a piece in: 18, 4 or 12 and everything as it was, or 0. The tables of the state are lent and stay where they are.
-pub fn feed_in_place(
-    core: Core,
-    header: &mut [u8; 16],
-    pending: &mut [u8; 255],
-    kinds: &[u8; 64],
-    piece: &[u8],
-    records: &mut [u8],
-) -> FedCore
-    ensures { answer result.number (state_of result.core header.new pending.new kinds.now) records.new ≡ feed_of (state_of core header.old pending.old kinds.now) piece.now records.old }
+// Takes a piece in, or refuses it, 18, 4 or 12, with everything as it was.
+pub fn feed_in_place(state: &mut State, piece: &[u8], records: &mut [u8]) -> Result<(), Refusal>
+    ensures { answer (answer_number result) state.new records.new ≡ feed_of state.old piece.now records.old }
 {
-    if !in_bounds(core, header, pending) {
-        return FedCore { number: 18, core };
+    if !state.core.in_bounds(&state.header, &state.pending) {
+        return Err(Refusal::Outside);
     }
     if records.len() < 16368 {
-        return FedCore { number: 4, core };
+        return Err(Refusal::SmallBuffer);
     }
-    if core.announced - core.taken < piece.len() {
-        return FedCore { number: 12, core };
+    if state.core.announced - state.core.taken < piece.len() {
+        return Err(Refusal::Beyond);
     }
-    let after = take_in(core, header, piece, pending, kinds, records);
-    FedCore {
-        number: 0,
-        core: after,
-    }
+    state.take_in(piece, records);
+    Ok(())
 }
 
-// The same for a state by value.
-pub fn feed(state: State, piece: &[u8], records: &mut [u8]) -> Fed
+// The same for a state by value. 0 is the number of a piece that was taken in.
+pub fn feed(mut state: State, piece: &[u8], records: &mut [u8]) -> Fed
     ensures { both result records.new ≡ feed_of state piece.now records.old }
 {
-    let mut header = state.header;
-    let mut pending = state.pending;
-    let kinds = state.kinds;
-    let fed = feed_in_place(
-        state.core,
-        &mut header,
-        &mut pending,
-        &kinds,
-        piece,
-        records,
-    );
-    let core = fed.core;
-    Fed {
-        number: fed.number,
-        state: State {
-            core,
-            header,
-            pending,
-            kinds,
-        },
-    }
+    let number = entry::answer_number(feed_in_place(&mut state, piece, records));
+    Fed { number, state }
 }
 
 pub fn record_count(state: State) -> usize
@@ -408,74 +274,68 @@ fn table_of(list: &[u8]) -> [u8; 64]
     requires { length list.now % 2 ≡ 0 }
     ensures { result ≡ table_of list.now }
 {
-    let mut kinds: [u8; 64] = [0; 64];
-    let mut i = list.len();
-    while 2 <= i {
-        i -= 2;
-        let number = wide(list[i]);
-        if 64 <= number {
-            continue;
+    let mut kinds = [0; 64];
+    for pair in list.chunks_exact(2).rev() {
+        let number = usize::from(pair[0]);
+        if number < 64 {
+            kinds[number] = pair[1];
         }
-        kinds[number] = list[i + 1];
     }
     kinds
 }
 
-fn fresh_core(announced: usize, refusal: u8) -> Core
-    ensures { result ≡ (fresh announced refusal (replicate 64 0)).core }
-{
-    Core {
-        announced,
-        taken: 0,
-        refusal,
-        offset: 0,
-        register: util::crc32_start(),
-        fill: 0,
-        count: 0,
-        written: 0,
+impl State {
+    // A state's refusal is a number, 0 for none.
+    fn fresh(announced: usize, refusal: u8, kinds: [u8; 64]) -> Self
+        ensures { result ≡ fresh announced refusal kinds }
+    {
+        let core = Core {
+            announced,
+            taken: 0,
+            offset: 0,
+            fill: 0,
+            count: 0,
+            written: 0,
+            register: util::crc32_start(),
+            refusal,
+        };
+        Self {
+            core,
+            header: [0; 16],
+            pending: [0; 255],
+            kinds,
+        }
     }
 }
 
 // No byte can be fed to an opening that is refused: its announced size is 0.
-fn refused_opening(number: u8) -> State
-    ensures { result ≡ fresh 0 number (replicate 64 0) }
+fn refused_opening(refusal: Refusal) -> State
+    ensures { result ≡ fresh 0 (refusal_number refusal) (replicate 64 0) }
 {
-    let core = fresh_core(0, number);
-    State {
-        core,
-        header: [0; 16],
-        pending: [0; 255],
-        kinds: [0; 64],
-    }
+    State::fresh(0, refusal.into(), [0; 64])
 }
 
 // A state for a DROM of an announced size, its adapters listed as bytes: number, kind, number, kind, ..
+#[tactic(auto, unfolding(crate::specs::Feed::open_of))]
 pub fn open(list: &[u8], announced: usize, records: &[u8]) -> State
     ensures { result ≡ open_of list.now announced (length records.now) }
 {
     if list.len() % 2 == 1 {
-        return refused_opening(5);
+        return refused_opening(Refusal::OddList);
     }
     if records.len() < 16368 {
-        return refused_opening(4);
+        return refused_opening(Refusal::SmallBuffer);
     }
     if announced < 16 {
-        return refused_opening(1);
+        return refused_opening(Refusal::TooFew);
     }
-    let core = fresh_core(announced, 0);
-    let kinds = table_of(list);
-    State {
-        core,
-        header: [0; 16],
-        pending: [0; 255],
-        kinds,
-    }
+    State::fresh(announced, 0, table_of(list))
 }
 
 // ---- finishing
 
-fn report(core: Core, header: &[u8]) -> Report
-    requires { 16 ≤ length header.now }
+// By its fields, as in `drom::read`: a function of six arguments in their place is no plainer.
+fn report(core: Core, header: &[u8; 16]) -> Report
     ensures { result ≡ told core header.now }
 {
     let h = drom::header_values(header);
@@ -496,23 +356,20 @@ fn report(core: Core, header: &[u8]) -> Report
 }
 
 // The report: 18 first, then 13 if bytes are missing.
+#[tactic(auto, unfolding(crate::specs::Feed::finish_of))]
 pub fn finish(state: State) -> Report
     ensures { result ≡ finish_of state }
 {
     let core = state.core;
-    let header = state.header;
-    let pending = state.pending;
-    if !in_bounds(core, &header, &pending) {
-        return drom::refused_report(18);
+    if !core.in_bounds(&state.header, &state.pending) {
+        return drom::refused_report(Refusal::Outside.into());
     }
     if core.taken < core.announced {
-        return drom::refused_report(13);
+        return drom::refused_report(Refusal::Missing.into());
     }
-    if core.refusal == 0 {
-        return report(core, &header);
+    // By the number that the state holds.
+    match core.refusal {
+        1..=5 => drom::refused_report(core.refusal),
+        _ => report(core, &state.header),
     }
-    if core.refusal <= 5 {
-        return drom::refused_report(core.refusal);
-    }
-    report(core, &header)
 }

@@ -5,5 +5,5 @@ mod bounds;
 pub mod feeding;
 
 pub use feeding::{
-    Core, Fed, FedCore, State, feed, feed_in_place, finish, open, record_bytes, record_count,
+    Core, Fed, State, feed, feed_in_place, finish, open, record_bytes, record_count,
 };

@@ -1,11 +1,26 @@
-// Room for a program's standard input.
-ghost use Rattle.std.specs.Prelude.{◌≡◌, length};
+// A test program's standard input, as one text.
+ghost use Rattle.std.specs.Prelude.{◌≤◌, ◌<◌, length, IfOk};
+ghost use Rattle.std.specs.Io.KnownBytes.{Consumes, IsAtEnd};
 
-// The most bytes of standard input. A text that has as many may have been cut.
-pub const INPUT: usize = 262144;
+use std::io;
+use std::io::{Read, Write};
+use streams::read_full;
 
-pub fn room() -> [u8; INPUT]
-    ensures { 262144 ≡ length result }
+// What there is of the input, at the front of the room: its next bytes, and where they do not fill the room, nothing is left.
+// A text that fills the room may have been cut, which is told.
+pub fn read_text<'a, R: Read, W: Write>(
+    input: &mut R,
+    out: &mut W,
+    what: &str,
+    room: &'a mut [u8],
+) -> io::Result<&'a [u8]>
+    ensures fits { IfOk result (λ text. length text.now ≤ length room.old) }
+    ensures bytes { IfOk result (λ text. Consumes (R.remaining input.old) (R.remaining input.new) text.now) }
+    ensures end { IfOk result (λ text. length text.now < length room.old → IsAtEnd (R.remaining input.new)) }
 {
-    [0; INPUT]
+    let n = read_full(input, room)?;
+    if n == room.len() {
+        writeln!(out, "too many {what} to read")?;
+    }
+    Ok(&room[..n])
 }

@@ -1,49 +1,101 @@
-// An answer as text, written word by word to a lent buffer. Each function returns where the next word goes. A text that
-// the buffer cannot hold is cut, and then differs from any that was expected.
-fn put(b: u8, out: &mut [u8], at: usize) -> usize {
-    if out.len() <= at {
-        return at;
+// An answer as text, in memory of a fixed size.
+ghost use Rattle.std.specs.Prelude.{◌≡◌, ◌≤◌, ℕ, List, [], ◌++◌, length, take, Some};
+ghost use Rattle.std.specs.Fmt.{WritesOnOk};
+ghost use Rattle.std.specs.List.{flat_map};
+ghost use Rattle.lines.specs.Hex.{hex_pair, hex_text};
+
+use std::fmt::Write;
+use std::marker::Model;
+use std::{fmt, str};
+
+// A text that does not fit is cut, and then differs from any that was expected.
+#[derive(Drop)]
+pub struct Text<const N: usize> {
+    bytes: [u8; N],
+    len: usize,
+}
+
+// What is there of the text.
+impl<const N: usize> Model for Text<N> {
+    ghost Value = { List ℕ };
+
+    ghost view = { λ text. take text.len text.bytes };
+
+    ghost invariant = { λ text. text.len ≤ N };
+}
+
+impl<const N: usize> Text<N> {
+    pub fn new() -> Text<N>
+        ensures { result ≡ [] }
+    {
+        Text {
+            bytes: [0; N],
+            len: 0,
+        }
     }
-    out[at] = b;
-    at + 1
-}
 
-pub fn put_text(text: &[u8], out: &mut [u8], at: usize) -> usize {
-    let mut end = at;
-    let mut i = 0;
-    while i < text.len() {
-        end = put(text[i], out, end);
-        i += 1;
+    pub fn as_slice(&self) -> &[u8]
+        ensures bytes { result.now ≡ self.now }
+        ensures fits { length result.now ≤ N }
+    {
+        &self.bytes[..self.len]
     }
-    end
-}
 
-pub fn put_decimal(n: usize, out: &mut [u8], at: usize) -> usize {
-    let mut digits = [0u8; 20];
-    let k = io::decimal(n as u64, &mut digits);
-    put_text(&digits[..k], out, at)
-}
-
-pub fn put_hex(n: u64, width: usize, out: &mut [u8], at: usize) -> usize {
-    let mut digits = [0u8; 16];
-    let k = io::hex(n, width, &mut digits);
-    put_text(&digits[..k], out, at)
-}
-
-fn put_byte(b: u8, out: &mut [u8], at: usize) -> usize {
-    put_hex(b as u64, 2, out, at)
-}
-
-// No bytes are written as -, as they are read.
-pub fn put_bytes(bytes: &[u8], out: &mut [u8], at: usize) -> usize {
-    if bytes.len() == 0 {
-        return put_text(b"-", out, at);
+    // Adds what a value displays. Nothing can fail, since a text that does not fit is cut. No clause says which text stands
+    // there, since a value may end in an error, and `Display` promises nothing of what it wrote before.
+    pub fn put<D: fmt::Display + Drop>(&mut self, value: D) {
+        let _ = self.write(value);
     }
-    let mut end = at;
-    let mut i = 0;
-    while i < bytes.len() {
-        end = put_byte(bytes[i], out, end);
-        i += 1;
+}
+
+impl<const N: usize> fmt::Write for Text<N> {
+    ghost write_str_gives = { λ old more new. new ≡ take N (old ++ more) };
+
+    fn write_str(&mut self, s: &str) -> fmt::Result {
+        let start = self.len;
+        let n = s.len().min(N - start);
+        let end = start + n;
+        let bytes = s.as_bytes();
+        let room = &mut self.bytes[..];
+        room[start..end].copy_from_slice(&bytes[..n]);
+        self.len = end;
+        Ok(())
     }
-    end
+}
+
+// Numbers, hex and a few words stand in it, which are ASCII, so that it is UTF-8 wherever it was cut.
+impl<const N: usize> fmt::Display for Text<N> {
+    ghost output = { λ text. Some text };
+
+    fn fmt<W: fmt::Write>(&self, f: &mut fmt::Formatter<W>) -> fmt::Result {
+        match str::from_utf8(self.as_slice()) {
+            Ok(text) => f.write_str(text),
+            Err(_) => Err(fmt::Error),
+        }
+    }
+}
+
+// Bytes as they are read: two digits each, and - for none.
+#[derive(Clone, Copy)]
+pub struct Hex<'a>(pub &'a [u8]);
+
+impl fmt::Display for Hex<'_> {
+    ghost output = { λ hex. Some (hex_text hex.0.now) };
+
+    fn fmt<W: fmt::Write>(&self, f: &mut fmt::Formatter<W>) -> fmt::Result {
+        if self.0.is_empty() {
+            return write!(f, "-");
+        }
+        write_pairs(self.0, f)
+    }
+}
+
+// Two digits for each byte.
+fn write_pairs<W: fmt::Write>(bytes: &[u8], f: &mut fmt::Formatter<W>) -> fmt::Result
+    ensures { WritesOnOk W.write_str_gives f.old result (flat_map hex_pair bytes.now) f.new }
+{
+    for b in bytes {
+        write!(f, "{b:02x}")?;
+    }
+    Ok(())
 }

@@ -1,161 +1,75 @@
 // The words of a line, and the numbers and bytes that they stand for.
-ghost use Rattle.std.specs.Prelude.{◌≤◌, length};
-
-use check::same;
-
-// An answer that is no number and no count: what was asked cannot be read.
-pub const MALFORMED: usize = 10000000;
-
-// Where b first stands, from the given place on, or the text's length.
-pub fn find(text: &[u8], from: usize, b: u8) -> usize
-    requires { from ≤ length text.now }
-    ensures { (from ≤ result) × (result ≤ length text.now) }
-{
-    let mut i = from;
-    while i < text.len() {
-        if text[i] == b {
-            return i;
-        }
-        i += 1;
-    }
-    i
-}
+ghost use Rattle.std.specs.Prelude.{◌≡◌, ◌≤◌, [], length, slice_get, ◌==◌, IfSome};
+ghost use Rattle.std.specs.List.{slice_split};
+ghost use Rattle.std.specs.Option.{option_map, unwrap_or};
+ghost use Rattle.lines.specs.Words as meaning;
 
 // Whether a line holds nothing to answer.
-pub fn is_comment(line: &[u8]) -> bool {
-    if line.len() == 0 {
-        return true;
-    }
-    line[0] == b'#'
-}
-
-// The place behind the next space, or the text's length.
-fn next_word(text: &[u8], from: usize) -> usize
-    requires { from ≤ length text.now }
-    ensures { result ≤ length text.now }
+pub fn is_comment(line: &[u8]) -> bool
+    ensures { result ≡ meaning.is_comment line.now }
 {
-    let end = find(text, from, b' ');
-    if end < text.len() { end + 1 } else { end }
+    matches!(line, [] | [b'#', ..])
 }
 
-// The text from a word on, counted from 0. A text without it gives the empty one.
-pub fn from_word(text: &[u8], n: usize) -> &[u8] {
-    let mut start = 0;
-    let mut left = n;
-    while 0 < left {
-        start = next_word(text, start);
-        left -= 1;
-    }
-    &text[start..]
+// A word, counted from 0, where words are what stands between spaces. A text without it gives the empty one.
+pub fn word(text: &[u8], n: usize) -> &[u8]
+    ensures { result.now ≡ unwrap_or (slice_get (slice_split (λ b. b == 32) text.now) n) [] }
+{
+    text.split(|b| *b == b' ').nth(n).unwrap_or(b"")
 }
 
-// A word, counted from 0. A text without it gives the empty one.
-pub fn word(text: &[u8], n: usize) -> &[u8] {
-    let rest = from_word(text, n);
-    let end = find(rest, 0, b' ');
-    &rest[0..end]
-}
-
-// What a word stands for as a number.
-#[derive(Clone, Copy)]
-pub enum Value {
-    Is(usize),
-    Unreadable,
-}
-
-// The largest usize, and its tenth.
-const MOST: usize = 18446744073709551615;
-
-const TENTH: usize = 1844674407370955161;
-
-// A number with a digit behind it.
-fn with_digit(n: usize, d: u8) -> Value {
-    if 9 < d {
-        return Value::Unreadable;
+// The number that a digit stands for. Upper-case letters are none.
+fn digit(b: u8) -> Option<u8>
+    ensures { result ≡ meaning.hex_digit b }
+{
+    match b {
+        b'0'..=b'9' => Some(b - b'0'),
+        b'a'..=b'f' => Some(b - b'a' + 10),
+        _ => None,
     }
-    if TENTH < n {
-        return Value::Unreadable;
-    }
-    let tens = n * 10;
-    let ones = d as usize;
-    if MOST - tens < ones {
-        return Value::Unreadable;
-    }
-    Value::Is(tens + ones)
 }
 
 // A decimal number, up to the largest usize.
-pub fn large_number(word: &[u8]) -> Value {
-    if word.len() == 0 {
-        return Value::Unreadable;
+pub fn large_number(word: &[u8]) -> Option<usize>
+    ensures { result ≡ meaning.decimal_number word.now }
+{
+    if word.is_empty() {
+        return None;
     }
     let mut n: usize = 0;
-    let mut i = 0;
-    while i < word.len() {
-        let Value::Is(more) = with_digit(n, digit(word[i])) else {
-            return Value::Unreadable;
-        };
-        n = more;
-        i += 1;
+    for b in word {
+        let ones = digit(*b).filter(|d| *d < 10)?;
+        n = n.checked_mul(10)?.checked_add(usize::from(ones))?;
     }
-    Value::Is(n)
+    Some(n)
 }
 
-// A decimal number of at most seven digits.
-pub fn number(word: &[u8]) -> usize {
-    let Value::Is(n) = large_number(word) else {
-        return MALFORMED;
-    };
-    if MALFORMED < n {
-        return MALFORMED;
-    }
-    n
+// The least number of eight digits.
+const TOO_LARGE: usize = 10_000_000;
+
+// A decimal number of at most seven digits, zeros in front aside.
+pub fn number(word: &[u8]) -> Option<usize>
+    ensures { result ≡ meaning.below_eight_digits (meaning.decimal_number word.now) }
+{
+    large_number(word).filter(|n| *n < TOO_LARGE)
 }
 
-// The number that a digit stands for, or 16 where it is no digit.
-fn digit(b: u8) -> u8 {
-    if b < b'0' {
-        return 16;
+// The bytes of a word, at the front of the room: two lower-case hex digits each, and - for no bytes. The empty word stands for
+// nothing, nor does one that is no hex or has more bytes than the room. How many bytes there are is promised, their values not:
+// over a `zip` with a mutable slice, what the loop keeps are the bytes that are left, and not those that were written.
+pub fn unhex<'a>(word: &[u8], room: &'a mut [u8]) -> Option<&'a [u8]>
+    ensures fits { IfSome result (λ bytes. length bytes.now ≤ length room.old) }
+    ensures count { option_map (λ bytes. length bytes.now) result ≡ meaning.byte_count (length room.old) word.now }
+{
+    if word == b"-".as_slice() {
+        return Some(&room[..0]);
     }
-    if b <= b'9' {
-        return b - b'0';
+    if word.is_empty() || word.len() % 2 == 1 {
+        return None;
     }
-    if b < b'a' {
-        return 16;
+    let bytes = room.get_mut(..word.len() / 2)?;
+    for (byte, pair) in bytes.iter_mut().zip(word.chunks_exact(2)) {
+        *byte = digit(pair[0])? * 16 + digit(pair[1])?;
     }
-    if b <= b'f' {
-        return b - b'a' + 10;
-    }
-    16
-}
-
-// The bytes of a word, to the front of out, and how many there are.
-pub fn unhex(word: &[u8], out: &mut [u8]) -> usize {
-    if same(word, b"-") {
-        return 0;
-    }
-    let half = word.len() / 2;
-    if half == 0 {
-        return MALFORMED;
-    }
-    if word.len() % 2 == 1 {
-        return MALFORMED;
-    }
-    if out.len() < half {
-        return MALFORMED;
-    }
-    let mut n = 0;
-    while n < half {
-        let high = digit(word[2 * n]);
-        let low = digit(word[2 * n + 1]);
-        if 15 < high {
-            return MALFORMED;
-        }
-        if 15 < low {
-            return MALFORMED;
-        }
-        out[n] = high * 16 + low;
-        n += 1;
-    }
-    half
+    Some(bytes)
 }

@@ -1,6 +1,6 @@
 -- The bytes of adapters, and of a table of kinds. Both are even in count (`pairs_even`, `from_even`), and the table's bytes give its
 -- kinds (`from_at`). A reading depends on an even list by its kinds below 64 only (`report_same`, `leaves_same`), so the table of a
--- list, as bytes, reads as the list does (`table_reads`); and 5 is told of no slice of adapters (`never_five`). `pairs_on` and `pairs_end`
+-- list, as bytes, reads as the list does (`table_report`, `table_leaves`); and 5 is told of no slice of adapters (`never_five`). `pairs_on` and `pairs_end`
 -- are for the loop of `pairs_of`.
 -- Assumes nothing.
 use mathlib.Core.Path.{◌≡◌, refl, sym, ap, ◌∙◌}
@@ -13,7 +13,6 @@ use lib.Dec.{ltb, eqb}
 use lib.ListN.{length, get_or, set, take, drop, length-set, drop_of_length-le}
 use lib.Seq.{drop-cons, take-suc-set, take_all}
 use Rattle.entry.specs.Adapters.{kind_in}
-use Rattle.drom.specs.declared.reader.Report.{Report}
 use Rattle.drom.specs.Numbers.{first_of, odd_list, small_buffer, too_few}
 use Rattle.drom.specs.Header.{header_tests, room_for, body_start}
 use Rattle.drom.specs.Report.{refusal_of, walk_in, report_of, records_of, leaves_of}
@@ -91,14 +90,11 @@ module _ (list : List Adapter) (drom : List ℕ) where
       let l : n < length (table_of (pairs_of list)) = omega (arith, h, table_long (pairs_of list)) in
       from_at (table_of (pairs_of list)) n l ∙ table_at (pairs_of list) n h
 
-  pub table_reads : (r : Report) (kinds before after : List ℕ) → kinds ≡ table_of (pairs_of list)
-      → (r ≡ report_of (pairs_from 0 kinds) drom (length before)) × (after ≡ leaves_of (pairs_from 0 kinds) drom before)
-      → (r ≡ report_of (pairs_of list) drom (length before)) × (after ≡ leaves_of (pairs_of list) drom before)
-  table_reads r kinds before after e said =
-      let t = table_of (pairs_of list) in (
-        said.0 ∙ ap (λ (ks : List ℕ). report_of (pairs_from 0 ks) drom (length before)) e ∙ report_same (pairs_from 0 t) (pairs_of list) drom (from_even 0 t) (pairs_even list) table_same (length before),
-        said.1 ∙ ap (λ (ks : List ℕ). leaves_of (pairs_from 0 ks) drom before) e ∙ leaves_same (pairs_from 0 t) (pairs_of list) drom (from_even 0 t) (pairs_even list) table_same before,
-      )
+  pub table_report : (room : ℕ) → report_of (pairs_from 0 (table_of (pairs_of list))) drom room ≡ report_of (pairs_of list) drom room
+  table_report = report_same _ _ drom (from_even 0 (table_of (pairs_of list))) (pairs_even list) table_same
+
+  pub table_leaves : (buffer : List ℕ) → leaves_of (pairs_from 0 (table_of (pairs_of list))) drom buffer ≡ leaves_of (pairs_of list) drom buffer
+  table_leaves = leaves_same _ _ drom (from_even 0 (table_of (pairs_of list))) (pairs_even list) table_same
 
 -- ---- the bytes of a table, a pair at a time: for the loop of `pairs_of`
 

@@ -7,7 +7,7 @@ use native.Mathlib.Omega.{arith}
 use lib.ListN.{length, drop, length-drop}
 use Rattle.entry.specs.declared.parse.DromEntry.{DromEntry}
 use Rattle.entry.specs.declared.parse.DromEntry.TheVariants.{Unknown}
-use Rattle.entry.specs.declared.parse.Decoded.TheVariants.{Is}
+use Rattle.std.specs.Prelude.{Ok, None}
 use Rattle.entry.specs.Rows.{Row, unknown, adapter, unused, display_port, lane, pcie_up, pcie_down, generic, ascii_vendor, ascii_model, tmu, product, serial, usb3_map, utf16_vendor, utf16_model, data_path, dptx, embedded_link, least, utf16_from, text_in, row_of}
 use Rattle.entry.specs.Decode.{values_of, text_refusal, row_entry, decode_of}
 use Rattle.entry.proofs.DecodeLaws.{decoded_values, row_plain, row_unknown}
@@ -40,24 +40,24 @@ values_row data_path bs = refl
 values_row dptx bs = refl
 values_row embedded_link bs = refl
 
-pub row_is_lem : (row : Row) (bs : List ℕ) (e : DromEntry) → row_entry row bs ≡ Is e → row_is e ≡ row
+pub row_is_lem : (row : Row) (bs : List ℕ) (e : DromEntry) → row_entry row bs ≡ Ok e → row_is e ≡ row
 row_is_lem row bs e d = ap row_is (decoded_values row bs e d).0 ∙ values_row row bs
 
 -- The writers require this of an entry: these bytes decode to it.
-pub decode_row : (kind : ℕ) (bs : List ℕ) (e : DromEntry) → decode_of kind bs ≡ Is e → row_entry (row_is e) bs ≡ Is e
+pub decode_row : (kind : ℕ) (bs : List ℕ) (e : DromEntry) → decode_of kind bs ≡ Ok e → row_entry (row_is e) bs ≡ Ok e
 unfolding decode_of
 decode_row kind bs e d = rw (row_is_lem (row_of kind bs) bs e d) d
 
 -- ---- the lengths
 
-module _ (bs : List ℕ) {e : DromEntry} (d : row_entry (row_is e) bs ≡ Is e) where
+module _ (bs : List ℕ) {e : DromEntry} (d : row_entry (row_is e) bs ≡ Ok e) where
   pub fits : least (row_is e) bs ≤ length bs
   fits = (decoded_values (row_is e) bs e d).1
 
   pub counted : payload_length bs e ≡ payload_length bs (values_of (row_is e) bs)
   counted = ap (payload_length bs) (decoded_values (row_is e) bs e d).0
 
-  pub accepted : text_refusal (text_in (row_is e)) bs ≡ 0
+  pub accepted : text_refusal (text_in (row_is e)) bs ≡ None
   accepted = (decoded_values (row_is e) bs e d).2
 
   -- of a UTF-16 text from byte i on
@@ -67,7 +67,7 @@ module _ (bs : List ℕ) {e : DromEntry} (d : row_entry (row_is e) bs ≡ Is e) 
 -- ---- an entry of one byte
 
 module _ (bs : List ℕ) (one : length bs ≡ 1) where
-  pub decode_one : (kind : ℕ) → decode_of kind bs ≡ Is Unknown
+  pub decode_one : (kind : ℕ) → decode_of kind bs ≡ Ok Unknown
   decode_one kind = decode_laws.decode_row kind bs unknown (row_unknown kind bs (omega arith)) ∙ row_plain unknown bs refl (omega arith)
 
   -- its record is a head, and no more

@@ -10,7 +10,7 @@ use Rattle.bits.proofs.LawsFields.{widths, pack_length, widths_bytes}
 use Rattle.util.specs.Utf16.{utf16_text}
 use Rattle.entry.specs.declared.parse.DromEntry.{DromEntry}
 use Rattle.entry.specs.declared.parse.DromEntry.TheVariants.{Unknown, Adapter, UnusedAdapter, DisplayPortAdapter, LaneAdapter, PcieUpAdapter, PcieDownAdapter, Generic, AsciiVendorName, AsciiModelName, Tmu, ProductDescriptor, SerialNumber, Usb3PortMapping, Utf16VendorName, Utf16ModelName, SingleDataPath, DptxRanking, EmbeddedLink}
-use Rattle.entry.specs.declared.parse.Decoded.TheVariants.{Is}
+use Rattle.std.specs.Prelude.{Ok}
 use Rattle.entry.specs.Rows.{Row, unknown, adapter, unused, display_port, lane, pcie_up, pcie_down, generic, ascii_vendor, ascii_model, tmu, product, serial, usb3_map, utf16_vendor, utf16_model, data_path, dptx, embedded_link, least}
 use Rattle.entry.specs.Decode.{name_of, values_of, row_entry}
 use Rattle.record.specs.Record.{row_is, tag_of, head_of, map_fields, rank_fields, payload_of, record_of}
@@ -47,7 +47,7 @@ module _ (bs : List ℕ) where
 
   -- ---- the payload
 
-  pub payload_length_lem : (e : DromEntry) → row_entry (row_is e) bs ≡ Is e → length (pack (payload_of bs e)) ≡ payload_length bs e
+  pub payload_length_lem : (e : DromEntry) → row_entry (row_is e) bs ≡ Ok e → length (pack (payload_of bs e)) ≡ payload_length bs e
   unfolding payload_of
   payload_length_lem Unknown x = pack_length (payload_of bs Unknown)
   payload_length_lem (Adapter d n) x = pack_length (payload_of bs (Adapter d n))
@@ -90,12 +90,12 @@ module _ (bs : List ℕ) where
   values_room dptx h = omega arith
   values_room embedded_link h = omega arith
 
-  pub payload_room : (e : DromEntry) → row_entry (row_is e) bs ≡ Is e → 4 + payload_length bs e ≤ 4 * length bs
+  pub payload_room : (e : DromEntry) → row_entry (row_is e) bs ≡ Ok e → 4 + payload_length bs e ≤ 4 * length bs
   payload_room e d = rw (counted bs d) (values_room (row_is e) (fits bs d))
 
   -- ---- the record
 
-  pub record_length_lem : (offset : ℕ) (e : DromEntry) → row_entry (row_is e) bs ≡ Is e → length (record_of offset bs e) ≡ 4 + payload_length bs e
+  pub record_length_lem : (offset : ℕ) (e : DromEntry) → row_entry (row_is e) bs ≡ Ok e → length (record_of offset bs e) ≡ 4 + payload_length bs e
   unfolding record_of
   record_length_lem offset e d =
       let head = head_of (tag_of e) offset (length bs) in
@@ -103,5 +103,5 @@ module _ (bs : List ℕ) where
       ∙ length-append (pack head) (pack (payload_of bs e))
       ∙ omega (arith, head_length_lem (tag_of e) offset (length bs), payload_length_lem e d)
 
-  pub record_room : (offset : ℕ) (e : DromEntry) → row_entry (row_is e) bs ≡ Is e → length (record_of offset bs e) ≤ 4 * length bs
+  pub record_room : (offset : ℕ) (e : DromEntry) → row_entry (row_is e) bs ≡ Ok e → length (record_of offset bs e) ≤ 4 * length bs
   record_room offset e d = omega (arith, record_length_lem offset e d, payload_room e d)

@@ -6,5 +6,6 @@ pub mod Turns
 pub mod TextLaws
 pub mod Known
 pub mod Lengths
+pub mod PayloadPut
 pub mod WriteLaws
 pub mod StepLaws

@@ -1,10 +1,17 @@
 -- The bytes that the record's fields make, one law for each payload, as the code computes them.
 -- Assumes nothing.
-use Prim.Native.Nat.{ℕ, ◌+◌, ◌*◌, ◌/◌, ◌%◌, ◌<◌, ◌≤◌}
+use Prim.Native.Nat.{ℕ, zero, suc, ◌+◌, ◌*◌, ◌/◌, ◌%◌, ◌<◌, ◌≤◌}
 use mathlib.Core.Path.{◌≡◌, refl, sym, ◌∙◌}
 use mathlib.Core.List.{List, [], ◌∷◌, ◌++◌}
 use native.Mathlib.Omega.{arith}
-use lib.ListN.{length}
+use lib.ListN.{length, get_or}
+use mathlib.Core.Bool.{Bool, true, false}
+use mir.Syntax.{w8, w16, w32}
+use mir.Val.{SFits, of_z as cast_unsigned, bool_byte as from_bool}
+use Rattle.std.specs.Prelude.{ℤ, pos, negsuc}
+use Rattle.std.specs.Int.{to_be_bytes}
+use Rattle.std.proofs.lemmas.Nat.{be_bytes_2, be_bytes_4}
+use Rattle.bits.specs.Bits.{Bytes, flag, twos}
 use Rattle.bits.specs.Fields.{Field, ◌∶◌, z, zz, zzz, pack}
 use Rattle.bits.proofs.LawsFields.{cons, pack_run, pack_length, pack_append, pack_front}
 use Rattle.record.specs.Record.{head_of, map_fields, rank_fields}
@@ -21,6 +28,39 @@ head_append tag offset L fs = pack_append (head_of tag offset L) fs refl
 
 pub head_length_lem : (tag offset L : ℕ) → length (pack (head_of tag offset L)) ≡ 4
 head_length_lem tag offset L = pack_length (head_of tag offset L)
+
+-- ---- std's conversions, in document 01's words
+
+pub bit_of : (b : Bool) {n : ℕ} → n ≡ from_bool b → (n ≡ flag b) × (n ≤ 1)
+bit_of true e = (e, omega arith)
+bit_of false e = (e, omega arith)
+
+pub byte_twos : (m : ℤ) → SFits w8 m → cast_unsigned w8 m ≡ twos m
+byte_twos (pos n) f = refl
+byte_twos (negsuc n) f = refl
+
+byte_pair : (a b : ℕ) → a < 256 → b < 256 → Bytes (a ∷ b ∷ [])
+byte_pair a b h k zero = h
+byte_pair a b h k (suc zero) = k
+byte_pair a b h k (suc (suc i)) = omega arith
+
+pub wide_be : (n : ℕ) → n < 65536 → {l : List ℕ} → l ≡ to_be_bytes w16 n → l ≡ (n / 256) ∷ (n % 256) ∷ []
+wide_be n h e = e ∙ be_bytes_2 ((n / 256) ∷ (n % 256) ∷ []) n refl (byte_pair _ _ (omega arith) (omega arith)) (omega arith)
+
+byte_four : (a b c d : ℕ) → a < 256 → b < 256 → c < 256 → d < 256 → Bytes (a ∷ b ∷ c ∷ d ∷ [])
+byte_four a b c d h k l m zero = h
+byte_four a b c d h k l m (suc i) = three i
+  where
+    three : (i : ℕ) → get_or (b ∷ c ∷ d ∷ []) i 0 < 256
+    three zero = k
+    three (suc i) = byte_pair c d l m i
+
+pub long_be : (n : ℕ) → n < 4294967296 → {l : List ℕ} → l ≡ to_be_bytes w32 n
+    → l ≡ (n / 16777216) ∷ (n / 65536 % 256) ∷ (n / 256 % 256) ∷ (n % 256) ∷ []
+long_be n h e =
+    e
+    ∙ be_bytes_4 ((n / 16777216) ∷ (n / 65536 % 256) ∷ (n / 256 % 256) ∷ (n % 256) ∷ []) n refl
+    (byte_four _ _ _ _ (omega arith) (omega arith) (omega arith) (omega arith)) (omega arith)
 
 -- ---- the payloads. A flag is 0 or 1, and of any other number its low bits stand.
 
@@ -53,9 +93,9 @@ product_bytes a b v p c d t r ha hb hv hp hc hd ht hr =
 pub wide_bytes : (x : ℕ) (fs : List Field) → x < 65536 → pack (x ∶ 16 ∷ fs) ≡ (x / 256) ∷ (x % 256) ∷ pack fs
 wide_bytes x fs h = pack_run _ ∙ cons (omega arith) (cons (omega arith) (sym (pack_run fs)))
 
-pub dptx_bytes : (a m n o u : ℕ) (fs : List Field) → m ≤ 1
-    → pack (a ∶ 5 ∷ m ∶ 1 ∷ zz ∷ n ∶ 4 ∷ o ∶ 3 ∷ z ∷ zzz ∷ u ∶ 5 ∷ fs) ≡ (a % 32 * 8 + m * 4) ∷ (n % 16 * 16 + o % 8 * 2) ∷ u % 32 ∷ pack fs
-dptx_bytes a m n o u fs h = pack_run _ ∙ cons (omega arith) (cons (omega arith) (cons (omega arith) (sym (pack_run fs))))
+pub dptx_bytes : (a m n o u : ℕ) → m ≤ 1
+    → pack (a ∶ 5 ∷ m ∶ 1 ∷ zz ∷ n ∶ 4 ∷ o ∶ 3 ∷ z ∷ zzz ∷ u ∶ 5 ∷ []) ≡ (a % 32 * 8 + m * 4) ∷ (n % 16 * 16 + o % 8 * 2) ∷ u % 32 ∷ []
+dptx_bytes a m n o u h = pack_run _ ∙ cons (omega arith) (cons (omega arith) (cons (omega arith) refl))
 
 pub link_bytes : (n : ℕ) → pack (zzz ∷ n ∶ 5 ∷ []) ≡ n % 32 ∷ []
 link_bytes n = pack_run _ ∙ cons (omega arith) refl
@@ -69,13 +109,13 @@ weigh2 p q = omega arith
 weigh4 : {a b c d x y z t : ℕ} → a ≡ x → b ≡ y → c ≡ z → d ≡ t → (((0 * 2 + a) * 4 + b) * 2 + c) * 16 + d ≡ x * 128 + y * 32 + z * 16 + t
 weigh4 p q r s = omega arith
 
-pub map_bytes : (m0 m1 m2 : ℕ) (ms : List ℕ) → m1 < 256 → m2 < 256
-    → pack (map_fields (m0 ∷ m1 ∷ m2 ∷ ms))
-    ≡ (m0 % 16 * 16 + m1 % 32 / 2) ∷ (m1 % 2 * 128 + m1 / 32 % 4 * 32 + m1 / 128 * 16 + m2 % 64 / 4) ∷ (m2 % 4 * 64 + m2 / 128 * 32) ∷ pack (map_fields ms)
+pub map_bytes : (m0 m1 m2 : ℕ) → m1 < 256 → m2 < 256
+    → pack (map_fields (m0 ∷ m1 ∷ m2 ∷ []))
+    ≡ (m0 % 16 * 16 + m1 % 32 / 2) ∷ (m1 % 2 * 128 + m1 / 32 % 4 * 32 + m1 / 128 * 16 + m2 % 64 / 4) ∷ (m2 % 4 * 64 + m2 / 128 * 32) ∷ []
 unfolding map_fields
-map_bytes m0 m1 m2 ms h1 h2 =
+map_bytes m0 m1 m2 h1 h2 =
     pack_run _
-    ∙ cons (omega arith) (cons (weigh4 (omega arith) (omega arith) (omega arith) (omega arith)) (cons (weigh2 (omega arith) (omega arith)) (sym (pack_run _))))
+    ∙ cons (omega arith) (cons (weigh4 (omega arith) (omega arith) (omega arith) (omega arith)) (cons (weigh2 (omega arith) (omega arith)) refl))
 
 pub rank_bytes : (b : ℕ) (bs : List ℕ) → b < 256 → pack (rank_fields (b ∷ bs)) ≡ (b % 32 * 8 + b / 32) ∷ pack (rank_fields bs)
 unfolding rank_fields

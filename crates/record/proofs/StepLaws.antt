@@ -16,7 +16,7 @@ use Rattle.bits.proofs.LawsFields.{pack_run, pack_front}
 use Rattle.util.specs.Utf16.{utf16_text}
 use Rattle.entry.specs.declared.parse.DromEntry.{DromEntry}
 use Rattle.entry.specs.declared.parse.DromEntry.TheVariants.{Unknown, Adapter, UnusedAdapter, DisplayPortAdapter, LaneAdapter, PcieUpAdapter, PcieDownAdapter, Generic, AsciiVendorName, AsciiModelName, Tmu, ProductDescriptor, SerialNumber, Usb3PortMapping, Utf16VendorName, Utf16ModelName, SingleDataPath, DptxRanking, EmbeddedLink}
-use Rattle.entry.specs.declared.parse.Decoded.TheVariants.{Is}
+use Rattle.std.specs.Prelude.{Ok}
 use Rattle.entry.specs.Rows.{Row, unknown, adapter, unused, display_port, lane, pcie_up, pcie_down, generic, ascii_vendor, ascii_model, tmu, product, serial, usb3_map, utf16_vendor, utf16_model, data_path, dptx, embedded_link, tag}
 use Rattle.entry.specs.Decode.{name_of, row_entry}
 use Rattle.record.specs.Record.{row_is, tag_of, map_fields, payload_of, record_of}
@@ -138,7 +138,7 @@ module _ (offset : ℕ) (bs rest : List ℕ) where
         → byte 4 (written e) ≡ n
     text_told e n q c = first_byte e n (byte_fields (utf16_text (drop 2 bs))) q (omega (arith, text_length (drop 2 bs), length-drop 2 bs))
 
-    size_told : (e : DromEntry) → row_entry (row_is e) bs ≡ Is e → get_or (payload_sizes (written e)) (tag_of e) 0 ≡ payload_length bs e
+    size_told : (e : DromEntry) → row_entry (row_is e) bs ≡ Ok e → get_or (payload_sizes (written e)) (tag_of e) 0 ≡ payload_length bs e
     unfolding payload_of
     size_told Unknown x = refl
     size_told (Adapter d n) x = refl
@@ -168,7 +168,7 @@ module _ (offset : ℕ) (bs rest : List ℕ) where
     size_told (EmbeddedLink l) x = refl
 
     -- The size of a record that was written, whatever follows it.
-    pub size_again : (e : DromEntry) → row_entry (row_is e) bs ≡ Is e → record_size (written e) ≡ length (record_of offset bs e)
+    pub size_again : (e : DromEntry) → row_entry (row_is e) bs ≡ Ok e → record_size (written e) ≡ length (record_of offset bs e)
     unfolding tagged_size
     size_again e d =
         let t : head_tag (written e) ≡ tag_of e = rw (spread e) in

@@ -13,10 +13,11 @@ use Rattle.bits.specs.Front.{Wrote}
 use Rattle.bits.specs.Bits.{Bytes}
 use Rattle.util.specs.Range.{range}
 use Rattle.util.specs.Utf16.{units, Char, scalar, unpaired, is_pair, alone, decode, kept, kept_of, text_of, utf16_text, utf16_answer, utf16_leaves}
-use Rattle.util.specs.declared.utf16.Utf16Ascii.TheVariants.{Written, OddLength, NoRoom}
 use Rattle.util.proofs.Rows.{and_means}
 use Rattle.entry.specs.Names.{before_zero}
-use Rattle.entry.specs.Decode.{name_of, odd_utf16, utf16_refusal}
+use Rattle.std.specs.Prelude.{Ok, Some, None}
+use Rattle.entry.specs.declared.refusal.Refusal.TheVariants.{OddUtf16}
+use Rattle.entry.specs.Decode.{name_of, utf16_refusal}
 
 -- ---- a name
 
@@ -100,27 +101,21 @@ module _ (text : List ℕ) (even : length text % 2 ≡ 0) where
   not_odd = ne_eqb (length text % 2) 1 (λ e. omega arith)
 
   module _ (room : ℕ) (enough : length text / 2 ≤ room) where
-    text_answer : utf16_answer text room ≡ Written (length (utf16_text text))
+    pub text_answer : utf16_answer text room ≡ Ok (length (utf16_text text))
     unfolding utf16_answer
     text_answer = rw (not_odd, le-ltb room (length text / 2) enough)
 
-    pub text_not_odd : utf16_answer text room ≡ OddLength → ⊥
-    text_not_odd a = let z : ◌≡◌ {A = ℕ} 0 1 = cc text_answer in omega arith
-
-    pub text_not_full : utf16_answer text room ≡ NoRoom → ⊥
-    text_not_full a = let z : ◌≡◌ {A = ℕ} 0 1 = cc text_answer in omega arith
-
   pub text_wrote : (part : List ℕ) {after : List ℕ} {n : ℕ} → length text / 2 ≤ length part
-      → utf16_answer text (length part) ≡ Written n → after ≡ utf16_leaves text part → Wrote (utf16_text text) part after n
+      → utf16_answer text (length part) ≡ Ok n → after ≡ utf16_leaves text part → Wrote (utf16_text text) part after n
   unfolding utf16_leaves
   text_wrote part {n = n} enough a b =
       let e : n ≡ length (utf16_text text) = cc (text_answer (length part) enough) in
       record { holds = rw (not_odd, le-ltb (length part) (length text / 2) enough) at b; counts = e }
 
 -- A text that is not refused is even.
-pub text_even : (text : List ℕ) → utf16_refusal text ≡ 0 → length text % 2 ≡ 0
+pub text_even : (text : List ℕ) → utf16_refusal text ≡ None → length text % 2 ≡ 0
 text_even text = go (eqb (length text % 2) 1) refl
   where
-    go : (t : Bool) → eqb (length text % 2) 1 ≡ t → ◌≡◌ {A = ℕ} (cond t odd_utf16 0) 0 → length text % 2 ≡ 0
-    go true e h = absurd (omega arith)
+    go : (t : Bool) → eqb (length text % 2) 1 ≡ t → cond t (Some OddUtf16) None ≡ None → length text % 2 ≡ 0
+    go true e h = absurd (cc)
     go false e h = omega (arith, eqb-false (length text % 2) 1 e)

@@ -1,6 +1,6 @@
 -- A loop that writes piece after piece, and the pieces of the two lists of a record: its maps and its ranks.
 -- Assumes nothing.
-use Prim.Native.Nat.{ℕ, ◌+◌, ◌-◌, ◌*◌, ◌/◌, ◌%◌, ◌<◌, ◌≤◌}
+use Prim.Native.Nat.{ℕ, ◌+◌, ◌-◌, ◌*◌, ◌/◌, ◌%◌, ◌<◌}
 use mathlib.Core.Path.{◌≡◌, refl, sym, ◌∙◌}
 use mathlib.Core.List.{List, [], ◌∷◌, ◌++◌, append_assoc, append-nil}
 use native.Mathlib.Numerals.{add-one}
@@ -51,16 +51,14 @@ pub no_rank : pack (rank_fields []) ≡ []
 unfolding rank_fields
 no_rank = pack_nil
 
-three : (bs : List ℕ) (i : ℕ) → i + 3 ≤ length bs → drop i bs ≡ get_or bs i 0 ∷ get_or bs (i + 1) 0 ∷ get_or bs (i + 2) 0 ∷ drop (i + 3) bs
-three bs i h =
-    let e : i + 1 + 1 ≡ i + 2 = omega arith in
-    let f : i + 2 + 1 ≡ i + 3 = omega arith in
-    simp (next bs i (omega arith), next bs (i + 1) (omega arith), e, next bs (i + 2) (omega arith), f)
-
-pub next_map : (bs : List ℕ) (i : ℕ) → i + 3 ≤ length bs
-    → pack (map_fields (drop i bs)) ≡ pack (map_fields (get_or bs i 0 ∷ get_or bs (i + 1) 0 ∷ get_or bs (i + 2) 0 ∷ [])) ++ pack (map_fields (drop (i + 3) bs))
+pub next_map : (m rest : List ℕ) → length m ≡ 3
+    → pack (map_fields (m ++ rest)) ≡ pack (map_fields (get_or m 0 0 ∷ get_or m 1 0 ∷ get_or m 2 0 ∷ [])) ++ pack (map_fields rest)
 unfolding map_fields
-next_map bs i h = rw (three bs i h) (pack_append (map_fields (get_or bs i 0 ∷ get_or bs (i + 1) 0 ∷ get_or bs (i + 2) 0 ∷ [])) (map_fields (drop (i + 3) bs)) refl)
+next_map [] rest h = absurd (omega arith)
+next_map (a ∷ []) rest h = absurd (omega arith)
+next_map (a ∷ b ∷ []) rest h = absurd (omega arith)
+next_map (a ∷ b ∷ c ∷ []) rest h = pack_append (map_fields (a ∷ b ∷ c ∷ [])) (map_fields rest) refl
+next_map (a ∷ b ∷ c ∷ d ∷ m) rest h = absurd (omega arith)
 
 -- what is left of less than three bytes
 pub no_map : (bs : List ℕ) → length bs < 3 → pack (map_fields bs) ≡ []

@@ -1,4 +1,4 @@
--- What `write_entry` promises to a caller that has room: "no room" never comes, and what was written is the record. And what its answer's
+-- What `write_entry` promises to a caller that has room: it is not refused as too small, and what was written is the record. And what its answer's
 -- number and size are (`small_number`, `room_number`, `small_size`, `room_size`).
 -- Assumes nothing.
 use mathlib.Core.Path.{◌≡◌, refl, ap}
@@ -9,13 +9,14 @@ use borrow.Author.Tests.{lt-ltb, le-ltb}
 use lib.ListN.{length}
 use Rattle.bits.specs.Front.{onto}
 use Rattle.entry.specs.declared.parse.DromEntry.{DromEntry}
-use Rattle.entry.specs.declared.parse.Decoded.{Decoded}
-use Rattle.entry.specs.declared.parse.Decoded.TheVariants.{Is, Refused}
+use Rattle.std.specs.Prelude.{Result, Ok, Err}
+use Rattle.entry.specs.declared.refusal.Refusal.{Refusal}
+use Rattle.entry.specs.declared.refusal.Refusal.TheVariants.{SmallBuffer}
 use Rattle.entry.specs.Adapters.{kind_in}
+use Rattle.entry.proofs.FitLaws.{refused_number}
 use Rattle.entry.specs.Decode.{number_of, decode_of, decoded_number}
 use Rattle.record.specs.Record.{record_of}
 use Rattle.record.specs.Write.{record_bytes, answer_of, write_answer, write_leaves, written_number, written_size}
-use Rattle.record.specs.declared.write.Written.TheVariants as written
 use Rattle.record.proofs.Known.{decode_row}
 use Rattle.record.proofs.Lengths.{record_length_lem, record_room}
 
@@ -29,11 +30,11 @@ module _ (bs : List ℕ) (kind offset : ℕ) where
   room_leaves buffer h = rw (le-ltb (length buffer / 4) (length bs) (omega arith))
 
   -- "No entry's record exceeds 4 times L bytes"
-  pub written_room : (e : DromEntry) → decode_of kind bs ≡ Is e → length (record_of offset bs e) ≤ 4 * length bs
+  pub written_room : (e : DromEntry) → decode_of kind bs ≡ Ok e → length (record_of offset bs e) ≤ 4 * length bs
   written_room e d = record_room bs offset e (decode_row kind bs e d)
 
   -- a record has its head at least
-  pub written_least : (e : DromEntry) → decode_of kind bs ≡ Is e → 4 ≤ length (record_of offset bs e)
+  pub written_least : (e : DromEntry) → decode_of kind bs ≡ Ok e → 4 ≤ length (record_of offset bs e)
   written_least e d = omega (arith, record_length_lem bs offset e (decode_row kind bs e d))
 
 -- ---- what an answer tells: its number, and its size
@@ -52,36 +53,37 @@ module _ (bs : List ℕ) (kind offset room : ℕ) where
   pub room_number : 4 * length bs ≤ room → written_number (write_answer bs kind offset room) ≡ decoded_number (decode_of kind bs)
   room_number h = rw (room_answer bs kind offset room h) (go (decode_of kind bs))
     where
-      go : (d : Decoded) → written_number (answer_of offset bs d) ≡ decoded_number d
-      go (Is e) = refl
-      go (Refused n) = refl
+      go : (d : Result DromEntry Refusal) → written_number (answer_of offset bs d) ≡ decoded_number d
+      go (Ok e) = refl
+      go (Err r) = refl
 
   pub room_size : 4 * length bs ≤ room → written_size (write_answer bs kind offset room) ≡ length (record_bytes offset bs (decode_of kind bs))
   room_size h = rw (room_answer bs kind offset room h) (go (decode_of kind bs))
     where
-      go : (d : Decoded) → written_size (answer_of offset bs d) ≡ length (record_bytes offset bs d)
-      go (Is e) = refl
-      go (Refused n) = refl
+      go : (d : Result DromEntry Refusal) → written_size (answer_of offset bs d) ≡ length (record_bytes offset bs d)
+      go (Ok e) = refl
+      go (Err r) = refl
 
 -- ---- what an answer tells of the entry
 
 -- a record of n bytes: the entry is decoded, and they are its record's
-pub record Recorded (offset : ℕ) (bs : List ℕ) (d : Decoded) (n : ℕ) : Type 0 where
+pub record Recorded (offset : ℕ) (bs : List ℕ) (d : Result DromEntry Refusal) (n : ℕ) : Type 0 where
   pub entry : DromEntry
-  pub is : d ≡ Is entry
+  pub is : d ≡ Ok entry
   pub size : n ≡ length (record_of offset bs entry)
 
-pub answer_record : (offset : ℕ) (bs : List ℕ) (d : Decoded) (n : ℕ) → answer_of offset bs d ≡ written.Record n → Recorded offset bs d n
-answer_record offset bs (Is e) n a = record { entry = e; is = refl; size = cc }
-answer_record offset bs (Refused m) n a = absurd (let z : ◌≡◌ {A = ℕ} 0 1 = cc in omega arith)
+pub answer_record : (offset : ℕ) (bs : List ℕ) (d : Result DromEntry Refusal) (n : ℕ) → answer_of offset bs d ≡ Ok n → Recorded offset bs d n
+answer_record offset bs (Ok e) n a = record { entry = e; is = refl; size = cc }
+answer_record offset bs (Err r) n a = absurd (cc)
 
-pub answer_refused : (offset : ℕ) (bs : List ℕ) (d : Decoded) (n : ℕ) → answer_of offset bs d ≡ written.Refused n → d ≡ Refused n
-answer_refused offset bs (Is e) n a = absurd (let z : ◌≡◌ {A = ℕ} 0 1 = cc in omega arith)
-answer_refused offset bs (Refused m) n a = cc
+pub answer_refused : (offset : ℕ) (bs : List ℕ) (d : Result DromEntry Refusal) (r : Refusal) → answer_of offset bs d ≡ Err r → d ≡ Err r
+answer_refused offset bs (Ok e) r a = absurd (cc)
+answer_refused offset bs (Err s) r a = cc
 
-pub answer_room : (offset : ℕ) (bs : List ℕ) (d : Decoded) → answer_of offset bs d ≡ written.NoRoom → ⊥
-answer_room offset bs (Is e) a = let z : ◌≡◌ {A = ℕ} 0 1 = cc in omega arith
-answer_room offset bs (Refused m) a = let z : ◌≡◌ {A = ℕ} 0 1 = cc in omega arith
+-- an entry by itself is not refused as a small buffer is
+pub answer_room : (offset : ℕ) (bs : List ℕ) (kind : ℕ) → answer_of offset bs (decode_of kind bs) ≡ Err SmallBuffer → ⊥
+answer_room offset bs kind a =
+    omega (arith, refused_number kind bs SmallBuffer (answer_refused offset bs (decode_of kind bs) SmallBuffer a))
 
 -- an entry's record depends on nothing but its offset, its bytes and the kind that is listed for its number
 pub record_depends : (list others : List ℕ) (offset : ℕ) (bs : List ℕ) → kind_in list (number_of bs) ≡ kind_in others (number_of bs)

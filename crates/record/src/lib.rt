@@ -5,4 +5,4 @@ pub mod step;
 pub mod write;
 
 pub use step::{Head, head_of, record_length};
-pub use write::{Written, write_by_row, write_entry};
+pub use write::{write_by_row, write_entry};

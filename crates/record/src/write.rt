@@ -1,255 +1,170 @@
-// An entry's bytes to its record, or to the number of its refusal. Each row's payload has a function of its own, which
-// writes it to the front of a part of the buffer and returns how many bytes it has.
-ghost use Rattle.std.specs.Prelude.{◌≡◌, [], ◌∷◌, ◌+◌, ◌*◌, ◌%◌, ◌≤◌, ◌<◌, length};
-ghost use Rattle.bits.specs.Bits.{flag, twos};
+// An entry's bytes to its record, or to why there is none. What has a fixed size is answered as an array, which `bits::put` writes where
+// there is room. Behind it stands what has as many bytes as the entry's own tell.
+ghost use Rattle.std.specs.Prelude.{◌≡◌, [], ◌∷◌, ◌+◌, ◌*◌, ◌%◌, ◌/◌, ◌≤◌, ◌<◌, length};
+ghost use Rattle.bits.specs.Bits.{flag};
 ghost use Rattle.bits.specs.Front.{Wrote};
-ghost use Rattle.bits.specs.Fields.{◌∶◌, byte_fields, pack};
+ghost use Rattle.bits.specs.Fields.{◌∶◌, z, zz, zzz, pack};
 ghost use Rattle.util.specs.Utf16.{utf16_text};
-ghost use Rattle.entry.specs.declared.parse.Decoded.TheVariants as decoded;
 ghost use Rattle.entry.specs.Decode.{row_entry};
 ghost use Rattle.record.specs.Record.{row_is, tag_of, head_of, map_fields, rank_fields, payload_of, record_of};
 ghost use Rattle.record.specs.Write.{write_answer, write_leaves};
 
-use entry::{Decoded, DromEntry, Version};
-use util::Utf16Ascii;
+use entry::{DromEntry, Refusal, Version};
 
-// How many bytes the record has, or why none was written.
-#[derive(Clone, Copy)]
-pub enum Written {
-    Record(usize),
-    Refused(u8),
-    NoRoom,
-}
-
-fn put_head(tag: u8, offset: usize, len: usize, out: &mut [u8]) -> usize
-    requires { 4 ≤ length out.old }
-    ensures { Wrote (pack (head_of tag offset len)) out.old out.new result }
+fn head(tag: u8, offset: usize, len: usize) -> [u8; 4]
+    ensures { result ≡ pack (head_of tag offset len) }
 {
-    bits::put4(
+    [
         tag,
         (offset / 32 % 256) as u8,
         (offset % 32 * 8 + len / 32 % 8) as u8,
         (len % 32 * 8) as u8,
-        out,
-    )
+    ]
 }
 
-fn as_bit(b: bool) -> u8
-    ensures { (result ≡ flag b) × (result ≤ 1) }
+fn adapter(disabled: bool, number: u8) -> [u8; 1]
+    ensures { result ≡ pack (payload_of [] (DromEntry.Adapter disabled number)) }
 {
-    if b { 1 } else { 0 }
+    [u8::from(disabled) * 128 + number % 64]
 }
 
-// A signed number as a byte in two's complement.
-fn as_byte(m: i8) -> u8
-    ensures { result ≡ twos m }
+// An unused adapter's number, and a generic kind.
+fn six_bits(number: u8) -> [u8; 1]
+    ensures { result ≡ pack (zz ∷ number ∶ 6 ∷ []) }
 {
-    if m < 0 {
-        (m as i16 + 256) as u8
-    } else {
-        m as u8
-    }
+    [number % 64]
 }
 
-fn put_adapter(disabled: bool, number: u8, out: &mut [u8]) -> usize
-    requires { 1 ≤ length out.old }
-    ensures { Wrote (pack (payload_of [] (DromEntry.Adapter disabled number))) out.old out.new result }
+fn display_port(number: u8, valid: bool, preferred: u8) -> [u8; 2]
+    ensures { result ≡ pack (payload_of [] (DromEntry.DisplayPortAdapter number valid preferred)) }
 {
-    bits::put1(as_bit(disabled) * 128 + number % 64, out)
+    [number % 64, u8::from(valid) * 128 + preferred % 64]
 }
 
-fn put_unused(number: u8, out: &mut [u8]) -> usize
-    requires { 1 ≤ length out.old }
-    ensures { Wrote (pack (payload_of [] (DromEntry.UnusedAdapter number))) out.old out.new result }
+fn lane(first: bool, dual: bool, number: u8, other: u8) -> [u8; 2]
+    ensures { result ≡ pack (payload_of [] (DromEntry.LaneAdapter first dual number other)) }
 {
-    bits::put1(number % 64, out)
-}
-
-fn put_display_port(number: u8, valid: bool, preferred: u8, out: &mut [u8]) -> usize
-    requires { 2 ≤ length out.old }
-    ensures { Wrote (pack (payload_of [] (DromEntry.DisplayPortAdapter number valid preferred))) out.old out.new result }
-{
-    bits::put2(number % 64, as_bit(valid) * 128 + preferred % 64, out)
-}
-
-fn put_lane(first: bool, dual: bool, number: u8, other: u8, out: &mut [u8]) -> usize
-    requires { 2 ≤ length out.old }
-    ensures { Wrote (pack (payload_of [] (DromEntry.LaneAdapter first dual number other))) out.old out.new result }
-{
-    bits::put2(
-        as_bit(first) * 128 + as_bit(dual) * 64 + number % 64,
+    [
+        u8::from(first) * 128 + u8::from(dual) * 64 + number % 64,
         other % 64,
-        out,
-    )
+    ]
 }
 
 // PCIe up and down.
-fn put_pcie(number: u8, function: u8, device: u8, out: &mut [u8]) -> usize
-    requires { 2 ≤ length out.old }
-    ensures { Wrote (pack (payload_of [] (DromEntry.PcieUpAdapter number function device))) out.old out.new result }
+fn pcie(number: u8, function: u8, device: u8) -> [u8; 2]
+    ensures { result ≡ pack (payload_of [] (DromEntry.PcieUpAdapter number function device)) }
 {
-    bits::put2(
+    [
         number % 64 * 4 + function % 8 / 2,
         function % 2 * 128 + device % 32 * 4,
-        out,
-    )
+    ]
 }
 
-fn put_generic(kind: u8, bytes: &[u8], out: &mut [u8]) -> usize
-    requires { (2 ≤ length bytes.now) × (length bytes.now ≤ length out.old) }
-    ensures { Wrote (pack (payload_of bytes.now (DromEntry.Generic kind))) out.old out.new result }
+fn tmu(mode: i8, rate: u8) -> [u8; 2]
+    ensures { result ≡ pack (payload_of [] (DromEntry.Tmu mode rate)) }
 {
-    bits::put1(kind % 64, out);
-    1 + bits::put_all(&bytes[2..], &mut out[1..])
+    [mode.cast_unsigned(), rate]
 }
 
-// ASCII vendor and model.
-fn put_name(n: usize, bytes: &[u8], out: &mut [u8]) -> usize
-    requires { (2 + n ≤ length bytes.now) × (length bytes.now ≤ length out.old) }
-    ensures { Wrote (pack (payload_of bytes.now (DromEntry.AsciiVendorName n))) out.old out.new result }
-{
-    bits::put1((n % 256) as u8, out);
-    let end = 2 + n;
-    1 + bits::put_all(&bytes[2..end], &mut out[1..])
-}
-
-fn put_tmu(mode: i8, rate: u8, out: &mut [u8]) -> usize
-    requires { 2 ≤ length out.old }
-    ensures { Wrote (pack (payload_of [] (DromEntry.Tmu mode rate))) out.old out.new result }
-{
-    bits::put2(as_byte(mode), rate, out)
-}
-
-fn put_product(
+fn product_descriptor(
     usb4: Version,
     vendor: u16,
     product: u16,
     fw: Version,
     test: u32,
     revision: u8,
-    out: &mut [u8],
-) -> usize
-    requires { 13 ≤ length out.old }
-    ensures { Wrote (pack (payload_of [] (DromEntry.ProductDescriptor usb4 vendor product fw test revision))) out.old out.new result }
+) -> [u8; 13]
+    ensures { result ≡ pack (payload_of [] (DromEntry.ProductDescriptor usb4 vendor product fw test revision)) }
 {
-    let bytes = [
-        usb4.major,
-        usb4.minor,
-        (vendor / 256) as u8,
-        (vendor % 256) as u8,
-        (product / 256) as u8,
-        (product % 256) as u8,
-        fw.major,
-        fw.minor,
-        (test / 16777216) as u8,
-        (test / 65536 % 256) as u8,
-        (test / 256 % 256) as u8,
-        (test % 256) as u8,
+    let v = vendor.to_be_bytes();
+    let p = product.to_be_bytes();
+    let t = test.to_be_bytes();
+    [
+        usb4.major, usb4.minor, v[0], v[1], p[0], p[1], fw.major, fw.minor, t[0], t[1], t[2], t[3],
         revision,
-    ];
-    bits::put_all(&bytes, out)
+    ]
 }
 
-// A text's length and the text. It has a byte for each unit at most, so that the two refusals do not come.
-fn put_utf16(n: usize, text: &[u8], out: &mut [u8]) -> usize
-    requires { (length text.now % 2 ≡ 0) × (length text.now < length out.old) }
-    ensures { Wrote (pack (n ∶ 8 ∷ byte_fields (utf16_text text.now))) out.old out.new result }
+fn data_path(preference: u8) -> [u8; 1]
+    ensures { result ≡ pack (payload_of [] (DromEntry.SingleDataPath preference)) }
 {
-    bits::put1((n % 256) as u8, out);
-    match util::bytes_to_utf16_ascii(text, &mut out[1..]) {
-        Utf16Ascii::Written(written) => 1 + written,
-        Utf16Ascii::OddLength => 0,
-        Utf16Ascii::NoRoom => 0,
-    }
+    [preference]
 }
 
-fn put_serial(language: u16, n: usize, bytes: &[u8], out: &mut [u8]) -> usize
-    requires { (4 ≤ length bytes.now) × (length bytes.now % 2 ≡ 0) × (length bytes.now ≤ length out.old) }
-    ensures { Wrote (pack (payload_of bytes.now (DromEntry.SerialNumber language n))) out.old out.new result }
+fn embedded_link(link: u8) -> [u8; 1]
+    ensures { result ≡ pack (payload_of [] (DromEntry.EmbeddedLink link)) }
 {
-    bits::put2((language / 256) as u8, (language % 256) as u8, out);
-    2 + put_utf16(n, &bytes[4..], &mut out[2..])
+    [link % 32]
+}
+
+// The count in front of a name, a UTF-16 name and USB3 maps.
+fn counted(n: usize) -> [u8; 1]
+    ensures { result ≡ pack (n ∶ 8 ∷ []) }
+{
+    [(n % 256) as u8]
+}
+
+// In front of its text.
+fn serial(language: u16, n: usize) -> [u8; 3]
+    ensures { result ≡ pack (language ∶ 16 ∷ n ∶ 8 ∷ []) }
+{
+    let l = language.to_be_bytes();
+    [l[0], l[1], (n % 256) as u8]
+}
+
+// In front of its ranks.
+fn dptx(number: u8, mh: bool, n: u8, order: u8, mu: u8) -> [u8; 3]
+    ensures { result ≡ pack (number ∶ 5 ∷ flag mh ∶ 1 ∷ zz ∷ n ∶ 4 ∷ order ∶ 3 ∷ z ∷ zzz ∷ mu ∶ 5 ∷ []) }
+{
+    [
+        number % 32 * 8 + u8::from(mh) * 4,
+        n % 16 * 16 + order % 8 * 2,
+        mu % 32,
+    ]
+}
+
+// The text and the two lists are written piece by piece. Each asks for its own room: half of the text's bytes, and all of a list's.
+
+// A text has a byte for each unit at most, so that the two refusals do not come.
+fn put_utf16(text: &[u8], out: &mut [u8]) -> usize
+    requires { (length text.now % 2 ≡ 0) × (length text.now / 2 ≤ length out.old) }
+    ensures { Wrote (utf16_text text.now) out.old out.new result }
+{
+    util::bytes_to_utf16_ascii(text, out).unwrap()
 }
 
 // A map of three bytes.
-fn put_map(m0: u8, m1: u8, m2: u8, out: &mut [u8]) -> usize
-    requires { 3 ≤ length out.old }
-    ensures { Wrote (pack (map_fields (m0 ∷ m1 ∷ m2 ∷ []))) out.old out.new result }
+fn map(m0: u8, m1: u8, m2: u8) -> [u8; 3]
+    ensures { result ≡ pack (map_fields (m0 ∷ m1 ∷ m2 ∷ [])) }
 {
     let a = m0 % 16 * 16 + m1 % 32 / 2;
     let b = m1 % 2 * 128 + m1 / 32 % 4 * 32 + m1 / 128 * 16 + m2 % 64 / 4;
     let c = m2 % 4 * 64 + m2 / 128 * 32;
-    bits::put3(a, b, c, out)
+    [a, b, c]
 }
 
 fn put_maps(maps: &[u8], out: &mut [u8]) -> usize
     requires { length maps.now ≤ length out.old }
     ensures { Wrote (pack (map_fields maps.now)) out.old out.new result }
 {
-    let mut i = 0;
-    while 3 <= maps.len() - i {
-        put_map(maps[i], maps[i + 1], maps[i + 2], &mut out[i..]);
-        i += 3;
+    let mut n = 0;
+    for m in maps.chunks_exact(3) {
+        n += bits::put(map(m[0], m[1], m[2]), &mut out[n..]);
     }
-    i
-}
-
-fn put_usb3(count: usize, bytes: &[u8], out: &mut [u8]) -> usize
-    requires { (2 ≤ length bytes.now) × (length bytes.now ≤ length out.old) }
-    ensures { Wrote (pack (payload_of bytes.now (DromEntry.Usb3PortMapping count))) out.old out.new result }
-{
-    bits::put1((count % 256) as u8, out);
-    1 + put_maps(&bytes[2..], &mut out[1..])
-}
-
-// UTF-16 vendor and model.
-fn put_utf16_name(n: usize, bytes: &[u8], out: &mut [u8]) -> usize
-    requires { (2 ≤ length bytes.now) × (length bytes.now % 2 ≡ 0) × (length bytes.now ≤ length out.old) }
-    ensures { Wrote (pack (payload_of bytes.now (DromEntry.Utf16VendorName n))) out.old out.new result }
-{
-    put_utf16(n, &bytes[2..], out)
-}
-
-fn put_data_path(preference: u8, out: &mut [u8]) -> usize
-    requires { 1 ≤ length out.old }
-    ensures { Wrote (pack (payload_of [] (DromEntry.SingleDataPath preference))) out.old out.new result }
-{
-    bits::put1(preference, out)
+    n
 }
 
 fn put_ranks(ranks: &[u8], out: &mut [u8]) -> usize
     requires { length ranks.now ≤ length out.old }
     ensures { Wrote (pack (rank_fields ranks.now)) out.old out.new result }
 {
-    let mut i = 0;
-    while i < ranks.len() {
-        out[i] = ranks[i] % 32 * 8 + ranks[i] / 32;
-        i += 1;
+    for (i, r) in ranks.iter().enumerate() {
+        out[i] = *r % 32 * 8 + *r / 32;
     }
-    i
+    ranks.len()
 }
 
-fn put_dptx(number: u8, mh: bool, n: u8, order: u8, mu: u8, bytes: &[u8], out: &mut [u8]) -> usize
-    requires { (5 + n ≤ length bytes.now) × (length bytes.now ≤ length out.old) }
-    ensures { Wrote (pack (payload_of bytes.now (DromEntry.DptxRanking number mh n order mu))) out.old out.new result }
-{
-    bits::put3(
-        number % 32 * 8 + as_bit(mh) * 4,
-        n % 16 * 16 + order % 8 * 2,
-        mu % 32,
-        out,
-    );
-    let end = 5 + n as usize;
-    3 + put_ranks(&bytes[5..end], &mut out[3..])
-}
-
-fn put_link(link: u8, out: &mut [u8]) -> usize
-    requires { 1 ≤ length out.old }
-    ensures { Wrote (pack (payload_of [] (DromEntry.EmbeddedLink link))) out.old out.new result }
-{
-    bits::put1(link % 32, out)
-}
-
+// A number, since it is the record's first byte.
 fn tag(e: DromEntry) -> u8
     ensures { result ≡ tag_of e }
 {
@@ -276,9 +191,9 @@ fn tag(e: DromEntry) -> u8
     }
 }
 
-// The payload of what the bytes decode to.
+// The payload of what the bytes decode to: the array of its row, and what stands behind it.
 fn put_payload(e: DromEntry, bytes: &[u8], out: &mut [u8]) -> usize
-    requires decodes { row_entry (row_is e) bytes.now ≡ decoded.Is e }
+    requires decodes { row_entry (row_is e) bytes.now ≡ Ok e }
     requires room { 4 * length bytes.now ≤ length out.old + 4 }
     ensures { Wrote (pack (payload_of bytes.now e)) out.old out.new result }
 {
@@ -287,16 +202,14 @@ fn put_payload(e: DromEntry, bytes: &[u8], out: &mut [u8]) -> usize
         DromEntry::Adapter {
             disabled,
             adapter_num,
-        } => put_adapter(disabled, adapter_num, out),
-        DromEntry::UnusedAdapter { adapter_num } => put_unused(adapter_num, out),
+        } => bits::put(adapter(disabled, adapter_num), out),
+        DromEntry::UnusedAdapter { adapter_num } => bits::put(six_bits(adapter_num), out),
         DromEntry::DisplayPortAdapter {
             adapter_num,
             preference_valid,
             preferred_lane_adapter_num,
-        } => put_display_port(
-            adapter_num,
-            preference_valid,
-            preferred_lane_adapter_num,
+        } => bits::put(
+            display_port(adapter_num, preference_valid, preferred_lane_adapter_num),
             out,
         ),
         DromEntry::LaneAdapter {
@@ -304,27 +217,32 @@ fn put_payload(e: DromEntry, bytes: &[u8], out: &mut [u8]) -> usize
             dual_lane_adapter,
             adapter_num,
             dual_lane_adapter_num,
-        } => put_lane(
-            lane_1_adapter,
-            dual_lane_adapter,
-            adapter_num,
-            dual_lane_adapter_num,
+        } => bits::put(
+            lane(
+                lane_1_adapter,
+                dual_lane_adapter,
+                adapter_num,
+                dual_lane_adapter_num,
+            ),
             out,
         ),
         DromEntry::PcieUpAdapter {
             adapter_num,
             function_num,
             device_num,
-        } => put_pcie(adapter_num, function_num, device_num, out),
-        DromEntry::PcieDownAdapter {
+        }
+        | DromEntry::PcieDownAdapter {
             adapter_num,
             function_num,
             device_num,
-        } => put_pcie(adapter_num, function_num, device_num, out),
-        DromEntry::Generic { kind } => put_generic(kind, bytes, out),
-        DromEntry::AsciiVendorName { length } => put_name(length, bytes, out),
-        DromEntry::AsciiModelName { length } => put_name(length, bytes, out),
-        DromEntry::Tmu { mode, rate } => put_tmu(mode, rate, out),
+        } => bits::put(pcie(adapter_num, function_num, device_num), out),
+        DromEntry::Generic { kind } => {
+            bits::put(six_bits(kind), out) + bits::put_all(&bytes[2..], &mut out[1..])
+        }
+        DromEntry::AsciiVendorName { length } | DromEntry::AsciiModelName { length } => {
+            bits::put(counted(length), out) + bits::put_all(&bytes[2..2 + length], &mut out[1..])
+        }
+        DromEntry::Tmu { mode, rate } => bits::put(tmu(mode, rate), out),
         DromEntry::ProductDescriptor {
             usb4_version,
             vendor,
@@ -332,58 +250,71 @@ fn put_payload(e: DromEntry, bytes: &[u8], out: &mut [u8]) -> usize
             fw_version,
             test_id,
             hw_revision,
-        } => put_product(
-            usb4_version,
-            vendor,
-            product,
-            fw_version,
-            test_id,
-            hw_revision,
+        } => bits::put(
+            product_descriptor(
+                usb4_version,
+                vendor,
+                product,
+                fw_version,
+                test_id,
+                hw_revision,
+            ),
             out,
         ),
-        DromEntry::SerialNumber { lang_id, length } => put_serial(lang_id, length, bytes, out),
-        DromEntry::Usb3PortMapping { count } => put_usb3(count, bytes, out),
-        DromEntry::Utf16VendorName { length } => put_utf16_name(length, bytes, out),
-        DromEntry::Utf16ModelName { length } => put_utf16_name(length, bytes, out),
-        DromEntry::SingleDataPath { preference } => put_data_path(preference, out),
+        DromEntry::SerialNumber { lang_id, length } => {
+            bits::put(serial(lang_id, length), out) + put_utf16(&bytes[4..], &mut out[3..])
+        }
+        DromEntry::Usb3PortMapping { count } => {
+            bits::put(counted(count), out) + put_maps(&bytes[2..], &mut out[1..])
+        }
+        DromEntry::Utf16VendorName { length } | DromEntry::Utf16ModelName { length } => {
+            bits::put(counted(length), out) + put_utf16(&bytes[2..], &mut out[1..])
+        }
+        DromEntry::SingleDataPath { preference } => bits::put(data_path(preference), out),
         DromEntry::DptxRanking {
             adapter_num,
             mh,
             nrr,
             preferred_order,
             mu,
-        } => put_dptx(adapter_num, mh, nrr, preferred_order, mu, bytes, out),
-        DromEntry::EmbeddedLink { link } => put_link(link, out),
+        } => {
+            let front = dptx(adapter_num, mh, nrr, preferred_order, mu);
+            let end = 5 + nrr as usize;
+            bits::put(front, out) + put_ranks(&bytes[5..end], &mut out[3..])
+        }
+        DromEntry::EmbeddedLink { link } => bits::put(embedded_link(link), out),
     }
 }
 
 // The record of what the bytes decode to.
 fn put_record(e: DromEntry, offset: usize, bytes: &[u8], out: &mut [u8]) -> usize
-    requires decodes { row_entry (row_is e) bytes.now ≡ decoded.Is e }
+    requires decodes { row_entry (row_is e) bytes.now ≡ Ok e }
     requires room { 4 * length bytes.now ≤ length out.old }
     ensures { Wrote (record_of offset bytes.now e) out.old out.new result }
 {
-    put_head(tag(e), offset, bytes.len(), out);
+    // With the two counts added, as in `put_payload`, a read of one-byte entries takes a twelfth longer.
+    bits::put(head(tag(e), offset, bytes.len()), out);
     4 + put_payload(e, bytes, &mut out[4..])
 }
 
-// An entry's record, for the kind that is listed for its number and where it stands in the DROM. No record exceeds four
-// times its entry.
-pub fn write_by_row(bytes: &[u8], kind: u8, offset: usize, out: &mut [u8]) -> Written
+// An entry's record, for the kind that is listed for its number and where it stands in the DROM: how many bytes it has. No record
+// exceeds four times its entry, and a buffer below that is refused first.
+pub fn write_by_row(bytes: &[u8], kind: u8, offset: usize, out: &mut [u8]) -> Result<usize, Refusal>
     ensures answer { result ≡ write_answer bytes.now kind offset (length out.old) }
     ensures buffer { out.new ≡ write_leaves bytes.now kind offset out.old }
 {
     if out.len() / 4 < bytes.len() {
-        return Written::NoRoom;
+        return Err(Refusal::SmallBuffer);
     }
+    // With `?` the entry is copied, and a read of mixed entries takes a twentieth longer.
     match entry::decode(bytes, kind) {
-        Decoded::Is(e) => Written::Record(put_record(e, offset, bytes, out)),
-        Decoded::Refused(n) => Written::Refused(n),
+        Ok(e) => Ok(put_record(e, offset, bytes, out)),
+        Err(r) => Err(r),
     }
 }
 
 // The same. An entry of one byte is a head alone; a body may have thousands, and in the loops over entries they take no further call.
-pub fn write_entry(bytes: &[u8], kind: u8, offset: usize, out: &mut [u8]) -> Written
+pub fn write_entry(bytes: &[u8], kind: u8, offset: usize, out: &mut [u8]) -> Result<usize, Refusal>
     ensures answer { result ≡ write_answer bytes.now kind offset (length out.old) }
     ensures buffer { out.new ≡ write_leaves bytes.now kind offset out.old }
 {
@@ -391,7 +322,7 @@ pub fn write_entry(bytes: &[u8], kind: u8, offset: usize, out: &mut [u8]) -> Wri
         return write_by_row(bytes, kind, offset, out);
     }
     if out.len() < 4 {
-        return Written::NoRoom;
+        return Err(Refusal::SmallBuffer);
     }
-    Written::Record(put_head(0, offset, 1, out))
+    Ok(bits::put(head(0, offset, 1), out))
 }

@@ -1,157 +1,93 @@
-// What the library answers to a case, as text.
+// What the library answers to a case, as text. There is no answer to a case that cannot be read.
 use super::feeding::answer_feed;
-use super::reports::{LENT, put_buffer, put_count, put_report};
-use check::same;
+use super::reports::{Fields, LENT, left};
 use drom::Report;
-use lines::text::{put_bytes, put_decimal, put_text};
-use lines::words::{MALFORMED, number, unhex, word};
+use lines::text::{Hex, Text};
+use lines::words::{number, unhex, word};
 
-// The most bytes of a case's list, DROM and buffer.
-const LIST: usize = 256;
+// The most bytes of a case's list, DROM and buffer. Memory is of a fixed size: no function allocates.
+pub(crate) const LIST: usize = 256;
 
-const DROM: usize = 4200;
+pub(crate) const DROM: usize = 4200;
 
-const ROOM: usize = 16400;
+pub(crate) const ROOM: usize = 16400;
 
-fn put_read(report: Report, lent: &[u8], out: &mut [u8]) -> usize {
-    let end = put_report(report, out, 0);
-    let buffer = put_text(b" ", out, end);
-    put_buffer(lent, out, buffer)
+// The most bytes of an answer.
+const ANSWER: usize = 40000;
+
+pub(crate) type Answer = Text<ANSWER>;
+
+// The answer to a case that asks for a reading of a whole DROM, by one of the two entries.
+fn answer_read<F: FnOnce(&[u8], &[u8], &mut [u8]) -> Option<Report>>(
+    case: &[u8],
+    read: F,
+) -> Option<Answer>
+    requires { F.IsAlwaysCallable read }
+{
+    let mut list = [0; LIST];
+    let mut drom = [0; DROM];
+    let mut lent = [LENT; ROOM];
+    let list = unhex(word(case, 1), &mut list)?;
+    let drom = unhex(word(case, 2), &mut drom)?;
+    let buffer = lent.get_mut(..number(word(case, 3))?)?;
+    let report = read(list, drom, buffer)?;
+    let mut answer = Answer::new();
+    answer.put(format_args!("{} {}", Fields(report), left(buffer)));
+    Some(answer)
 }
 
-fn read(list: &[u8], drom: &[u8], lent: &mut [u8], out: &mut [u8]) -> usize {
-    let report = drom::read(list, drom, lent);
-    put_read(report, lent, out)
-}
-
-fn read_structs(list: &[u8], drom: &[u8], lent: &mut [u8], out: &mut [u8]) -> usize {
-    if LIST < list.len() {
-        return MALFORMED;
-    }
+// A list of odd length is no list of structs.
+fn read_structs(list: &[u8], drom: &[u8], buffer: &mut [u8]) -> Option<Report> {
     if list.len() % 2 == 1 {
-        return MALFORMED;
+        return None;
     }
-    let report = structs::read_structs(list, drom, lent);
-    put_read(report, lent, out)
+    Some(structs::read_structs(list, drom, buffer))
 }
 
 // A part of a DROM, as the place where it is expected if those are its bytes, and else as its bytes.
-fn put_part(part: &[u8], drom: &[u8], from: usize, out: &mut [u8]) -> usize {
-    if part.len() == 0 {
-        return put_text(b"0 0", out, 0);
+fn part_text(part: &[u8], drom: &[u8], expected: &[u8]) -> Answer {
+    let mut answer = Answer::new();
+    match number(word(expected, 0)) {
+        _ if part.is_empty() => answer.put("0 0"),
+        Some(from) if from <= drom.len() && drom[from..].starts_with(part) => {
+            answer.put(format_args!("{from} {}", from + part.len()));
+        }
+        _ => answer.put(Hex(part)),
     }
-    if drom.len() < from {
-        return put_bytes(part, out, 0);
-    }
-    let rest = &drom[from..];
-    if rest.len() < part.len() {
-        return put_bytes(part, out, 0);
-    }
-    if !same(&rest[0..part.len()], part) {
-        return put_bytes(part, out, 0);
-    }
-    let end = put_count(from, out, 0);
-    put_decimal(from + part.len(), out, end)
+    answer
 }
 
-fn entry(list: &[u8], drom: &[u8], k: usize, from: usize, out: &mut [u8]) -> usize {
-    put_part(drom::nth_entry(list, drom, k), drom, from, out)
+fn answer_entry(case: &[u8], expected: &[u8]) -> Option<Answer> {
+    let mut list = [0; LIST];
+    let mut drom = [0; DROM];
+    let list = unhex(word(case, 1), &mut list)?;
+    let drom = unhex(word(case, 2), &mut drom)?;
+    let entry = drom::nth_entry(list, drom, number(word(case, 3))?);
+    Some(part_text(entry, drom, expected))
 }
 
-// Whether a case asks for a reading of a whole DROM, by either entry.
-fn is_read(kind: &[u8]) -> bool {
-    if same(kind, b"read") {
-        return true;
-    }
-    same(kind, b"structs")
+fn answer_part(case: &[u8], expected: &[u8]) -> Option<Answer> {
+    let mut drom = [0; DROM];
+    let drom = unhex(word(case, 2), &mut drom)?;
+    let part = match word(case, 1) {
+        b"header" => drom::head(drom),
+        b"body" => drom::body(drom),
+        b"whole" => drom::bytes(drom),
+        _ => return None,
+    };
+    Some(part_text(part, drom, expected))
 }
 
-fn answer_read(
-    case: &[u8],
-    list: &mut [u8],
-    drom: &mut [u8],
-    lent: &mut [u8],
-    out: &mut [u8],
-) -> usize {
-    let n = unhex(word(case, 1), list);
-    if list.len() < n {
-        return MALFORMED;
+// The answer to a case. A part's place is looked for where the expected answer has it.
+pub(crate) fn answer(case: &[u8], expected: &[u8]) -> Option<Answer> {
+    match word(case, 0) {
+        b"read" => answer_read(case, |list, drom, buffer| {
+            Some(drom::read(list, drom, buffer))
+        }),
+        b"structs" => answer_read(case, read_structs),
+        b"feed" => answer_feed(case),
+        b"part" => answer_part(case, expected),
+        b"entry" => answer_entry(case, expected),
+        _ => None,
     }
-    let m = unhex(word(case, 2), drom);
-    if drom.len() < m {
-        return MALFORMED;
-    }
-    let room = number(word(case, 3));
-    if lent.len() < room {
-        return MALFORMED;
-    }
-    if same(word(case, 0), b"structs") {
-        return read_structs(&list[0..n], &drom[0..m], &mut lent[0..room], out);
-    }
-    read(&list[0..n], &drom[0..m], &mut lent[0..room], out)
-}
-
-fn answer_entry(
-    case: &[u8],
-    from: usize,
-    list: &mut [u8],
-    drom: &mut [u8],
-    out: &mut [u8],
-) -> usize {
-    let n = unhex(word(case, 1), list);
-    if list.len() < n {
-        return MALFORMED;
-    }
-    let m = unhex(word(case, 2), drom);
-    if drom.len() < m {
-        return MALFORMED;
-    }
-    let k = number(word(case, 3));
-    if k == MALFORMED {
-        return MALFORMED;
-    }
-    entry(&list[0..n], &drom[0..m], k, from, out)
-}
-
-fn answer_part(case: &[u8], from: usize, drom: &mut [u8], out: &mut [u8]) -> usize {
-    let m = unhex(word(case, 2), drom);
-    if drom.len() < m {
-        return MALFORMED;
-    }
-    let d = &drom[0..m];
-    let which = word(case, 1);
-    if same(which, b"header") {
-        return put_part(drom::head(d), d, from, out);
-    }
-    if same(which, b"body") {
-        return put_part(drom::body(d), d, from, out);
-    }
-    if same(which, b"whole") {
-        return put_part(drom::bytes(d), d, from, out);
-    }
-    MALFORMED
-}
-
-// The answer to a case, to the front of out, and how many bytes it has. A part's place is looked for where the expected
-// answer has it.
-pub(crate) fn answer(case: &[u8], expected: &[u8], out: &mut [u8]) -> usize {
-    let mut list = [0u8; LIST];
-    let mut drom = [0u8; DROM];
-    let kind = word(case, 0);
-    if is_read(kind) {
-        let mut lent = [LENT; ROOM];
-        return answer_read(case, &mut list, &mut drom, &mut lent, out);
-    }
-    if same(kind, b"feed") {
-        let mut lent = [LENT; ROOM];
-        return answer_feed(case, &mut list, &mut drom, &mut lent, out);
-    }
-    let from = number(word(expected, 0));
-    if same(kind, b"part") {
-        return answer_part(case, from, &mut drom, out);
-    }
-    if same(kind, b"entry") {
-        return answer_entry(case, from, &mut list, &mut drom, out);
-    }
-    MALFORMED
 }

@@ -1,60 +1,38 @@
 // A report and a lent buffer as text.
-ghost use Rattle.std.specs.Prelude.{◌≤◌, length};
-
 use drom::Report;
-use lines::text::{put_bytes, put_decimal, put_hex, put_text};
+use lines::text::Hex;
+use std::fmt;
 
 // What a buffer holds before it is lent, so that every byte that was written shows.
 pub(crate) const LENT: u8 = 0xa5;
 
-pub(crate) fn put_count(n: usize, out: &mut [u8], at: usize) -> usize {
-    let end = put_decimal(n, out, at);
-    put_text(b" ", out, end)
-}
+// A report's fields in order: the sums and the UUID in hex, all else in decimal, and a verdict as 1 or 0.
+#[derive(Clone, Copy)]
+pub(crate) struct Fields(pub Report);
 
-fn put_sum(n: u64, width: usize, out: &mut [u8], at: usize) -> usize {
-    let end = put_hex(n, width, out, at);
-    put_text(b" ", out, end)
-}
-
-fn put_header(r: Report, out: &mut [u8], at: usize) -> usize {
-    let number = put_count(r.number as usize, out, at);
-    let offset = put_count(r.offset, out, number);
-    let version = put_count(r.version as usize, out, offset);
-    let length = put_count(r.length, out, version);
-    put_count(r.start, out, length)
-}
-
-fn put_sums(r: Report, out: &mut [u8], at: usize) -> usize {
-    let crc32 = put_sum(r.crc32 as u64, 8, out, at);
-    let crc32_good = put_count(r.crc32good as usize, out, crc32);
-    let crc8 = put_sum(r.crc8 as u64, 2, out, crc32_good);
-    let uuid = put_sum(r.uuid, 16, out, crc8);
-    put_count(r.crc8good as usize, out, uuid)
-}
-
-pub(crate) fn put_report(r: Report, out: &mut [u8], at: usize) -> usize {
-    let header = put_header(r, out, at);
-    let sums = put_sums(r, out, header);
-    let records = put_count(r.records, out, sums);
-    put_decimal(r.bytes, out, records)
-}
-
-// How many bytes are left of a buffer without its tail of untouched ones.
-fn without_tail(buffer: &[u8]) -> usize
-    ensures { result ≤ length buffer.now }
-{
-    let mut n = buffer.len();
-    while 0 < n {
-        if buffer[n - 1] != LENT {
-            return n;
-        }
-        n -= 1;
+impl fmt::Display for Fields {
+    fn fmt<W: fmt::Write>(&self, f: &mut fmt::Formatter<W>) -> fmt::Result {
+        let Fields(r) = self;
+        let crc32good = u8::from(r.crc32good);
+        let crc8good = u8::from(r.crc8good);
+        write!(
+            f,
+            "{} {} {} {} {} ",
+            r.number, r.offset, r.version, r.length, r.start
+        )?;
+        write!(
+            f,
+            "{:08x} {crc32good} {:02x} {:016x} {crc8good} ",
+            r.crc32, r.crc8, r.uuid
+        )?;
+        write!(f, "{} {}", r.records, r.bytes)
     }
-    n
 }
 
-pub(crate) fn put_buffer(buffer: &[u8], out: &mut [u8], at: usize) -> usize {
-    let n = without_tail(buffer);
-    put_bytes(&buffer[0..n], out, at)
+// What is left of a lent buffer, without its tail of untouched bytes.
+pub(crate) fn left(buffer: &[u8]) -> Hex<'_> {
+    match buffer.iter().rposition(|b| *b != LENT) {
+        Some(last) => Hex(&buffer[..=last]),
+        None => Hex(b""),
+    }
 }

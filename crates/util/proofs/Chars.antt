@@ -1,10 +1,10 @@
--- The case laws of `is_utf8`: what the character at the front of a list of bytes says of the whole, and `CharAt` in each case, for `char_len`.
+-- The case laws of `is_utf8`: what the character at the front of a list of bytes says of the whole, and the same at the front of any bytes, for `char_len`.
 -- Assumes nothing.
-use Rattle.std.proofs.Common.{◌≡◌, ℕ, suc, ◌+◌, ◌<◌, ◌≤◌, true, false, List, [], ◌∷◌, length, get_or, drop, ◌∙◌, not-suc-le-zero, arith, drop_of_length-le, drop-cons, le-leb}
-use native.Mathlib.Numerals.{towards_suc}
+use Rattle.std.proofs.Common.{◌≡◌, ℕ, suc, ◌+◌, ◌<◌, ◌≤◌, true, false, List, [], ◌∷◌, length, get_or, drop, ◌∙◌, arith, length-drop, take_all, le-leb}
 use borrow.Author.Tests.{lt-leb}
 use Rattle.util.specs.Utf8.{utf8_1, utf8_2, utf8_3, utf8_4, is_utf8}
-use Rattle.util.specs.Chars.{CharAt}
+use Rattle.std.proofs.lemmas.Bool.{false_from_ne_true}
+use Rattle.util.proofs.Rows.{two_means, three_means, four_means, no_two, no_three}
 
 pub ascii : (a : ℕ) → a < 0x80 → utf8_1 a ≡ true
 unfolding utf8_1
@@ -57,57 +57,69 @@ module _ (a b : ℕ) (not1 : utf8_1 a ≡ false) where
       unfolding is_utf8
       bad4 h = rw (not1, not2, not3, h)
 
--- ---- the same at an index
+-- ---- the same at the front of a list, by bounds on its bytes
 
-abbrev byte : List ℕ → ℕ → ℕ
-byte bs i = get_or bs i 0
+-- a character of two, of three and of four bytes: the first byte's range, the tails', and what some first bytes ask of the second
+abbrev pub Two : List ℕ → Type 0
+Two bs = (1 < length bs) × (0xC2 ≤ get_or bs 0 0) × (get_or bs 0 0 ≤ 0xDF) × (0x80 ≤ get_or bs 1 0) × (get_or bs 1 0 ≤ 0xBF)
 
-module _ (bs : List ℕ) (i : ℕ) where
-  front1 : i + 1 ≤ length bs → drop i bs ≡ byte bs i ∷ drop (i + 1) bs
-  front1 h = simp towards_suc (rw (drop-cons bs i 0 (omega arith)))
+abbrev pub Three : List ℕ → Type 0
+Three bs =
+    (2 < length bs) × (0xE0 ≤ get_or bs 0 0) × (get_or bs 0 0 ≤ 0xEF)
+    × (0x80 ≤ get_or bs 1 0) × (get_or bs 1 0 ≤ 0xBF) × (0x80 ≤ get_or bs 2 0) × (get_or bs 2 0 ≤ 0xBF)
+    × (get_or bs 0 0 ≡ 0xE0 → 0xA0 ≤ get_or bs 1 0) × (get_or bs 0 0 ≡ 0xED → get_or bs 1 0 ≤ 0x9F)
 
-  front2 : i + 2 ≤ length bs → drop i bs ≡ byte bs i ∷ byte bs (i + 1) ∷ drop (i + 2) bs
-  front2 h = front1 (omega arith) ∙ simp towards_suc (rw (drop-cons bs (suc i) 0 (omega arith)))
+abbrev pub Four : List ℕ → Type 0
+Four bs =
+    (3 < length bs) × (0xF0 ≤ get_or bs 0 0) × (get_or bs 0 0 ≤ 0xF4)
+    × (0x80 ≤ get_or bs 1 0) × (get_or bs 1 0 ≤ 0xBF) × (0x80 ≤ get_or bs 2 0) × (get_or bs 2 0 ≤ 0xBF)
+    × (0x80 ≤ get_or bs 3 0) × (get_or bs 3 0 ≤ 0xBF)
+    × (get_or bs 0 0 ≡ 0xF0 → 0x90 ≤ get_or bs 1 0) × (get_or bs 0 0 ≡ 0xF4 → get_or bs 1 0 ≤ 0x8F)
 
-  front3 : i + 3 ≤ length bs → drop i bs ≡ byte bs i ∷ byte bs (i + 1) ∷ byte bs (i + 2) ∷ drop (i + 3) bs
-  front3 h = front2 (omega arith) ∙ simp towards_suc (rw (drop-cons bs (suc (suc i)) 0 (omega arith)))
+pub char1 : (bs : List ℕ) → 0 < length bs → get_or bs 0 0 < 0x80 → is_utf8 bs ≡ is_utf8 (drop 1 bs)
+char1 [] l h = absurd (omega arith)
+char1 (a ∷ bs) l h = ok1 a bs (ascii a h)
 
-  front4 : i + 4 ≤ length bs → drop i bs ≡ byte bs i ∷ byte bs (i + 1) ∷ byte bs (i + 2) ∷ byte bs (i + 3) ∷ drop (i + 4) bs
-  front4 h = front3 (omega arith) ∙ simp towards_suc (rw (drop-cons bs (suc (suc (suc i))) 0 (omega arith)))
+pub char2 : (bs : List ℕ) → Two bs → is_utf8 bs ≡ is_utf8 (drop 2 bs)
+char2 [] t = absurd (omega arith)
+char2 (a ∷ []) t = absurd (omega arith)
+char2 (a ∷ b ∷ bs) t = ok2 a b (not_ascii a (omega arith)) bs ((two_means a b).1 (omega arith))
 
-  found : (r : ℕ) → i + r ≤ length bs → 0 < r → is_utf8 (drop i bs) ≡ is_utf8 (drop (i + r) bs) → CharAt bs i r
-  found r h p e = record { inside = h; none = λ z. absurd (not-suc-le-zero (rw z at p)); some = λ q. e }
+pub char3 : (bs : List ℕ) → Three bs → is_utf8 bs ≡ is_utf8 (drop 3 bs)
+char3 [] t = absurd (omega arith)
+char3 (a ∷ []) t = absurd (omega arith)
+char3 (a ∷ b ∷ []) t = absurd (omega arith)
+char3 (a ∷ b ∷ c ∷ bs) t = ok3 a b (not_ascii a (omega arith)) c (no_two a b (omega arith)) bs ((three_means a b c).1 (grind arith))
 
-  missing : i ≤ length bs → is_utf8 (drop i bs) ≡ false → CharAt bs i 0
-  missing h e = record { inside = omega arith; none = λ z. e; some = λ p. absurd (not-suc-le-zero p) }
+pub char4 : (bs : List ℕ) → Four bs → is_utf8 bs ≡ is_utf8 (drop 4 bs)
+char4 [] t = absurd (omega arith)
+char4 (a ∷ []) t = absurd (omega arith)
+char4 (a ∷ b ∷ []) t = absurd (omega arith)
+char4 (a ∷ b ∷ c ∷ []) t = absurd (omega arith)
+char4 (a ∷ b ∷ c ∷ d ∷ bs) t =
+    ok4 a b (not_ascii a (omega arith)) c (no_two a b (omega arith)) d (no_three a b c (omega arith)) bs ((four_means a b c d).1 (grind arith))
 
-  pub char1 : i + 1 ≤ length bs → utf8_1 (byte bs i) ≡ true → CharAt bs i 1
-  char1 h t = found 1 h (omega arith) (rw (front1 h) (ok1 (byte bs i) (drop (i + 1) bs) t))
+-- no row fits where the bounds are refuted
+module _ (a b : ℕ) (bs : List ℕ) where
+  not_two : (Two (a ∷ b ∷ bs) → ⊥) → utf8_2 a b ≡ false
+  not_two h = false_from_ne_true _ (λ e. let r = (two_means a b).0 e in h (omega arith))
 
-  pub end1 : i + 1 ≤ length bs → length bs ≤ i + 1 → utf8_1 (byte bs i) ≡ false → CharAt bs i 0
-  end1 h e t = missing (omega arith) (rw (front1 h, drop_of_length-le bs e) (bad1 (byte bs i) t))
+  not_three : (c : ℕ) → (Three (a ∷ b ∷ c ∷ bs) → ⊥) → utf8_3 a b c ≡ false
+  not_three c h = false_from_ne_true _ (λ e. let r = (three_means a b c).0 e in h (grind arith))
 
-  module _ (not1 : utf8_1 (byte bs i) ≡ false) where
-    pub char2 : i + 2 ≤ length bs → utf8_2 (byte bs i) (byte bs (i + 1)) ≡ true → CharAt bs i 2
-    char2 h t = found 2 h (omega arith) (rw (front2 h) (ok2 (byte bs i) (byte bs (i + 1)) not1 (drop (i + 2) bs) t))
+  not_four : (c d : ℕ) → (Four (a ∷ b ∷ c ∷ d ∷ bs) → ⊥) → utf8_4 a b c d ≡ false
+  not_four c d h = false_from_ne_true _ (λ e. let r = (four_means a b c d).0 e in h (grind arith))
 
-    pub end2 : i + 2 ≤ length bs → length bs ≤ i + 2 → utf8_2 (byte bs i) (byte bs (i + 1)) ≡ false → CharAt bs i 0
-    end2 h e t = missing (omega arith) (rw (front2 h, drop_of_length-le bs e) (bad2 (byte bs i) (byte bs (i + 1)) not1 t))
+pub no_char : (bs : List ℕ) → 0 < length bs → 0x80 ≤ get_or bs 0 0 → (Two bs → ⊥) → (Three bs → ⊥) → (Four bs → ⊥) → is_utf8 bs ≡ false
+no_char [] l h two three four = absurd (omega arith)
+no_char (a ∷ []) l h two three four = bad1 a (not_ascii a h)
+no_char (a ∷ b ∷ []) l h two three four = bad2 a b (not_ascii a h) (not_two a b [] two)
+no_char (a ∷ b ∷ c ∷ []) l h two three four = bad3 a b (not_ascii a h) c (not_two a b (c ∷ []) two) (not_three a b [] c three)
+no_char (a ∷ b ∷ c ∷ d ∷ bs) l h two three four =
+    bad4 a b (not_ascii a h) c (not_two a b (c ∷ d ∷ bs) two) d (not_three a b (d ∷ bs) c three) bs (not_four a b bs c d four)
 
-    module _ (not2 : utf8_2 (byte bs i) (byte bs (i + 1)) ≡ false) where
-      pub char3 : i + 3 ≤ length bs → utf8_3 (byte bs i) (byte bs (i + 1)) (byte bs (i + 2)) ≡ true → CharAt bs i 3
-      char3 h t = found 3 h (omega arith) (rw (front3 h) (ok3 (byte bs i) (byte bs (i + 1)) not1 (byte bs (i + 2)) not2 (drop (i + 3) bs) t))
+-- for `char_len`
+pub ruleset chars = (char2, char3, char4, no_char)
 
-      pub end3 : i + 3 ≤ length bs → length bs ≤ i + 3 → utf8_3 (byte bs i) (byte bs (i + 1)) (byte bs (i + 2)) ≡ false → CharAt bs i 0
-      end3 h e t = missing (omega arith) (rw (front3 h, drop_of_length-le bs e) (bad3 (byte bs i) (byte bs (i + 1)) not1 (byte bs (i + 2)) not2 t))
-
-      module _ (not3 : utf8_3 (byte bs i) (byte bs (i + 1)) (byte bs (i + 2)) ≡ false) (h : i + 4 ≤ length bs) where
-        pub char4 : utf8_4 (byte bs i) (byte bs (i + 1)) (byte bs (i + 2)) (byte bs (i + 3)) ≡ true → CharAt bs i 4
-        char4 t =
-            found 4 h (omega arith)
-            (rw (front4 h) (ok4 (byte bs i) (byte bs (i + 1)) not1 (byte bs (i + 2)) not2 (byte bs (i + 3)) not3 (drop (i + 4) bs) t))
-
-        pub end4 : utf8_4 (byte bs i) (byte bs (i + 1)) (byte bs (i + 2)) (byte bs (i + 3)) ≡ false → CharAt bs i 0
-        end4 t =
-            missing (omega arith)
-            (rw (front4 h) (bad4 (byte bs i) (byte bs (i + 1)) not1 (byte bs (i + 2)) not2 (byte bs (i + 3)) not3 (drop (i + 4) bs) t))
+-- for `is_utf8`, where it passes over an ASCII byte
+pub ruleset ascii_passed = (char1, take_all, length-drop)

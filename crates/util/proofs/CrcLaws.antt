@@ -1,6 +1,8 @@
 -- The laws of the two checksums: in pieces as in one; a single-bit step is linear; a byte by CRC32_TABLE; eight bytes by CRC32_ROWS.
 -- Assumes nothing.
-use Rattle.std.proofs.Common.{◌≡◌, ℕ, zero, suc, ◌+◌, ◌-◌, ◌*◌, ◌/◌, ◌%◌, ◌^◌, ◌<◌, ◌≤◌, cond, T, eqb, List, [], ◌∷◌, ◌++◌, length, get_or, take, drop, sym, refl, ap, ◌∙◌, ap₂, le_of_eq, mod-lt, mod-eq_of_lt, div-add-mod', add-one, arith, lit<, length-drop, take-append-drop, drop_of_length-le, take_all, drop-cons, drop-drop}
+use Rattle.std.proofs.Common.{◌≡◌, ℕ, zero, suc, ◌+◌, ◌*◌, ◌/◌, ◌%◌, ◌^◌, ◌<◌, ◌≤◌, cond, T, eqb, List, [], ◌∷◌, ◌++◌, length, get_or, take, drop, take-append-drop, take_all, length-drop, length-take, drop-drop, sym, refl, ap, ◌∙◌, ap₂, mod-lt, mod-eq_of_lt, div-add-mod', arith, lit<, drop_of_length-le, drop-cons}
+use Rattle.std.proofs.lemmas.List.{take-take}
+use Rattle.std.specs.List.{fold}
 use lib.Bits.{bit_xor, differ, xor_comm, xor_zero_r, xor_shifted, xor_shr, xor_mod, shifted_half, shifted_even}
 use Rattle.util.specs.Crc.{times, over, bit_of32, byte_of32}
 use Rattle.util.specs.Tables.{Stepped, Rowed}
@@ -12,14 +14,10 @@ pub over_append : (f : ℕ → ℕ → ℕ) (c : ℕ) (xs ys : List ℕ) → ove
 over_append f c [] ys = refl
 over_append f c (x ∷ xs) ys = over_append f (f c x) xs ys
 
--- a loop over the bytes: what is left at i, from the register c there, comes to r in all
-module _ (f : ℕ → ℕ → ℕ) (bs : List ℕ) (i c r : ℕ) (left : over f c (drop i bs) ≡ r) where
-  pub over_turn : (d : ℕ) → i < length bs → d ≡ f c (get_or bs i 0) → over f d (drop (i + 1) bs) ≡ r
-  over_turn d h e =
-      ap₂ (over f) e (ap (λ (k : ℕ). drop k bs) (add-one i)) ∙ ap (over f c) (sym (drop-cons bs i 0 h)) ∙ left
-
-  pub over_end : length bs ≤ i → c ≡ r
-  over_end h = ap (over f c) (sym (drop_of_length-le bs h)) ∙ left
+-- it is a fold
+pub from_fold : (f : ℕ → ℕ → ℕ) (c r : ℕ) (xs : List ℕ) → r ≡ fold f c xs → r ≡ over f c xs
+from_fold f c r [] e = e
+from_fold f c r (x ∷ xs) e = from_fold f (f c x) r xs e
 
 pub times_add : (f : ℕ → ℕ) (m n x : ℕ) → times (m + n) f x ≡ times n f (times m f x)
 times_add f zero n x = let e : zero + n ≡ n = omega arith in ap (λ (k : ℕ). times k f x) e
@@ -88,7 +86,6 @@ by_table c b h =
 -- a byte, with k bytes after it, by two rows of CRC32_ROWS
 pub by_rows : (t : List ℕ) → Rowed t → (k b : ℕ) → k < 8 → b < 256
     → bit_xor (get_or t (k * 32 + b / 16) 0) (get_or t (k * 32 + 16 + b % 16) 0) ≡ times (suc k * 8) bit_of32 b
-unfolding Rowed
 by_rows t ok k b hk hb =
     let high : k * 32 + b / 16 ≡ k * 2 * 16 + b / 16 = omega arith in
     let low : k * 32 + 16 + b % 16 ≡ suc (k * 2) * 16 + b % 16 = omega arith in
@@ -136,7 +133,6 @@ abbrev row_rule : ℕ → ℕ
 row_rule k = times (suc (k / 16) * 4) bit_of32 (k % 16)
 
 pub rowed : (t : List ℕ) → T (every (λ (k x : ℕ). eqb x (row_rule k)) 0 t) → length t ≡ 256 → Rowed t
-unfolding Rowed
 rowed t passes len r n hr hn =
     let row : (r * 16 + n) / 16 ≡ r = omega arith in
     let place : (r * 16 + n) % 16 ≡ n = omega arith in
@@ -170,15 +166,12 @@ eight c b0 b1 b2 b3 b4 b5 b6 b7 v0 v1 v2 v3 v4 v5 v6 v7 hc h0 h1 h2 h3 h4 h5 h6 
     ∙ first_byte 0 b4 v4 _ (b5 ∷ b6 ∷ b7 ∷ []) h4 e4
     (first_byte 0 b5 v5 _ (b6 ∷ b7 ∷ []) h5 e5 (first_byte 0 b6 v6 _ (b7 ∷ []) h6 e6 (first_byte 0 b7 v7 0 [] h7 e7 refl))))))))
 
--- a loop that takes a part at a time, from i to e, and then what is left
-module _ (f : ℕ → ℕ → ℕ) (bs : List ℕ) (i c r d : ℕ) (left : over f c (drop i bs) ≡ r) where
-  pub over_part : (e : ℕ) → i ≤ e → d ≡ over f c (take (e - i) (drop i bs)) → over f d (drop e bs) ≡ r
-  over_part e h ed =
-      let on : i + (e - i) ≡ e = omega arith in
-      ap₂ (over f) ed (ap (λ (k : ℕ). drop k bs) (sym on) ∙ sym (drop-drop (e - i) i bs))
-      ∙ sym (over_append f c (take (e - i) (drop i bs)) (drop (e - i) (drop i bs)))
-      ∙ ap (over f c) (take-append-drop (e - i) (drop i bs))
-      ∙ left
+-- a loop that takes n bytes at a time, from i
+pub over_part : (f : ℕ → ℕ → ℕ) (n i c d : ℕ) (bs : List ℕ) → d ≡ over f c (take n (drop i bs)) → over f d (drop (i + n) bs) ≡ over f c (drop i bs)
+over_part f n i c d bs ed =
+    ap₂ (over f) ed (sym (drop-drop n i bs))
+    ∙ sym (over_append f c (take n (drop i bs)) (drop n (drop i bs)))
+    ∙ ap (over f c) (take-append-drop n (drop i bs))
 
-  pub over_rest : d ≡ over f c (take (length bs - i) (drop i bs)) → d ≡ r
-  over_rest ed = ed ∙ ap (over f c) (take_all (length bs - i) (drop i bs) (le_of_eq (length-drop i bs))) ∙ left
+-- for `by_eight`, whose parts are a slice's first eight bytes
+pub ruleset parts = (over_part, take_all, take-take, length-drop, length-take)

@@ -3,10 +3,10 @@ pub mod Xor
 pub mod Table
 pub mod CrcLaws
 pub mod CrcMeans
-pub mod Units
 pub mod Text
 pub mod Chars
 pub mod Rows
 pub mod Utf8Means
 pub mod Utf16Means
 pub mod Utf16Numbers
+pub mod LoopLaws

@@ -1,11 +1,11 @@
 -- Document 01's text rule for UTF-16, over the Unicode Standard's decoding (D91): code units become scalar values,
 -- or unpaired surrogates, first; what is kept of them comes second. What D91 encodes is in specs/Utf16Form.antt.
 -- Assumes nothing.
-use Rattle.std.specs.Prelude.{ℕ, ◌+◌, ◌-◌, ◌*◌, ◌/◌, ◌%◌, Bool, cond, ◌&&◌, List, [], ◌∷◌, ◌++◌, length, ◌==◌, nat_lt}
+use Rattle.std.specs.Prelude.{ℕ, ◌+◌, ◌-◌, ◌*◌, ◌/◌, ◌%◌, Bool, cond, ◌&&◌, Result, Ok, Err, List, [], ◌∷◌, ◌++◌, length, ◌==◌, nat_lt}
 use Rattle.bits.specs.Front.{onto}
 use Rattle.util.specs.Range.{range}
-use Rattle.util.specs.declared.utf16.Utf16Ascii.{Utf16Ascii}
-use Rattle.util.specs.declared.utf16.Utf16Ascii.TheVariants.{Written, OddLength, NoRoom}
+use Rattle.util.specs.declared.utf16.Utf16Error.{Utf16Error}
+use Rattle.util.specs.declared.utf16.Utf16Error.TheVariants.{OddLength, NoRoom}
 
 -- "UTF-16 units are little-endian"
 abbrev pub units : List ℕ → List ℕ
@@ -53,10 +53,10 @@ utf16_text bytes = text_of (units bytes)
 
 -- what `bytes_to_utf16_ascii` answers, for bytes and the size of the buffer lent: an odd count is told first,
 -- then a buffer with less than a byte for each unit
-unfoldable pub utf16_answer : List ℕ → ℕ → Utf16Ascii
+unfoldable pub utf16_answer : List ℕ → ℕ → Result ℕ Utf16Error
 utf16_answer bytes room =
-    cond (length bytes % 2 == 1) OddLength
-    (cond (nat_lt room (length bytes / 2)) NoRoom (Written (length (utf16_text bytes))))
+    cond (length bytes % 2 == 1) (Err OddLength)
+    (cond (nat_lt room (length bytes / 2)) (Err NoRoom) (Ok (length (utf16_text bytes))))
 
 -- and what the buffer is then
 unfoldable pub utf16_leaves : List ℕ → List ℕ → List ℕ
@@ -67,12 +67,11 @@ utf16_leaves bytes buffer =
 -- "Where an answer is an enum, a definition gives this paper's number and values for each case of the enum": 0 and the text's length; 11,
 -- "UTF-16 part of odd length"; or 4, the number of a buffer that is too small. Proofs of crate drom (NumberLaws `enum_numbers`) hold these to the
 -- names that stand above this crate.
-abbrev pub utf16_ascii_number : Utf16Ascii → ℕ
-utf16_ascii_number (Written n) = 0
-utf16_ascii_number OddLength = 11
-utf16_ascii_number NoRoom = 4
+abbrev pub utf16_ascii_number : Result ℕ Utf16Error → ℕ
+utf16_ascii_number (Ok n) = 0
+utf16_ascii_number (Err OddLength) = 11
+utf16_ascii_number (Err NoRoom) = 4
 
-abbrev pub utf16_ascii_length : Utf16Ascii → ℕ
-utf16_ascii_length (Written n) = n
-utf16_ascii_length OddLength = 0
-utf16_ascii_length NoRoom = 0
+abbrev pub utf16_ascii_length : Result ℕ Utf16Error → ℕ
+utf16_ascii_length (Ok n) = n
+utf16_ascii_length (Err e) = 0

@@ -8,4 +8,4 @@ pub mod utf8;
 
 pub use crc::{crc8, crc32, crc32_final, crc32_more, crc32_start};
 pub use utf8::is_utf8;
-pub use utf16::{Utf16Ascii, bytes_to_utf16_ascii, utf16_ascii_count};
+pub use utf16::{Utf16Error, bytes_to_utf16_ascii, utf16_ascii_count};

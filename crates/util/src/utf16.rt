@@ -1,98 +1,84 @@
 // The text of little-endian UTF-16 units, in the characters that a sheet shows.
-ghost use Rattle.std.specs.Prelude.{◌≡◌, ◌+◌, ◌/◌, ◌<◌, ◌≤◌, length, drop, slice_index};
+ghost use Rattle.std.specs.Prelude.{◌≡◌, ◌+◌, ◌/◌, ◌≤◌, MatchOption, length};
 ghost use Rattle.bits.specs.Front.{onto};
-ghost use Rattle.util.specs.Utf16.{units, is_pair, alone, kept, utf16_text, utf16_answer, utf16_leaves};
-ghost use Rattle.util.specs.Shown.{shown, Shows};
+ghost use Rattle.util.specs.Utf16.{is_pair, alone, kept, utf16_text, utf16_answer, utf16_leaves};
+ghost use Rattle.util.specs.Shown.{shown, StartsWith, Shows};
 
-// What writing a text answers: how many bytes it wrote, or why it wrote none.
-#[derive(Clone, Copy)]
-pub enum Utf16Ascii {
-    Written(usize),
+// Why a text is not written.
+#[derive(Clone, Copy, Debug, PartialEq, Eq, Hash)]
+pub enum Utf16Error {
     OddLength,
     NoRoom,
 }
 
-// The unit at i, or 0 where there is none.
-fn unit_at(bytes: &[u8], i: usize) -> u16
+fn unit_at(bytes: &[u8], i: usize) -> Option<u16>
     requires { i ≤ length bytes.now }
-    ensures { (result ≡ slice_index (units (drop i bytes.now)) 0) × (0 < result → i + 2 ≤ length bytes.now) }
+    ensures { MatchOption result (length bytes.now ≤ i + 1) (StartsWith bytes.now i) }
 {
-    if 1 < bytes.len() - i {
-        (bytes[i] as u16) + 256 * (bytes[i + 1] as u16)
-    } else {
-        0
+    match &bytes[i..] {
+        [low, high, ..] => Some(u16::from_le_bytes([*low, *high])),
+        _ => None,
     }
 }
 
+#[tactic(auto, using(std::proofs::lemmas::Bool::Decides::nat_tests), unfolding(crate::specs::Utf16::is_pair))]
 fn is_pair(u: u16, v: u16) -> bool
     ensures { result ≡ is_pair u v }
 {
-    if u < 0xd800 {
-        return false;
-    }
-    if 0xdbff < u {
-        return false;
-    }
-    if v < 0xdc00 {
-        return false;
-    }
-    v <= 0xdfff
+    matches!((u, v), (0xd800..=0xdbff, 0xdc00..=0xdfff))
 }
 
-// What is kept of a unit that is no part of a pair, or 0 for nothing.
-fn kept_alone(u: u16) -> u8
+// What is kept of a unit that is no part of a pair.
+#[tactic(auto, using(std::proofs::lemmas::Bool::Decides::nat_tests), unfolding(crate::specs::Utf16::kept, crate::specs::Utf16::alone))]
+fn kept_alone(u: u16) -> Option<u8>
     ensures { shown result ≡ kept (alone u) }
 {
-    if u < 0x21 {
-        return 0;
+    match u {
+        0x21..=0x7e => Some(u as u8),
+        0xd800..=0xdfff => Some(b'.'),
+        _ => None,
     }
-    if u <= 0x7e {
-        return u as u8;
-    }
-    if u < 0xd800 {
-        return 0;
-    }
-    if u <= 0xdfff {
-        return b'.';
-    }
-    0
 }
 
-// What the unit at a place shows, with the next where the two are a pair, and the place after them. 0 shows nothing.
+// What the unit at a place shows, with the next where the two are a pair, and the place after them.
 #[derive(Drop)]
 struct Step {
-    byte: u8,
+    shown: Option<u8>,
     next: usize,
 }
 
-fn next_shown(bytes: &[u8], i: usize) -> Step
-    requires { i + 2 ≤ length bytes.now }
-    ensures { Shows bytes.now i result.byte result.next }
+// The step of the unit at i, or None where fewer than two bytes are left.
+#[tactic(auto, using(crate::proofs::Text::steps))]
+fn next_shown(bytes: &[u8], i: usize) -> Option<Step>
+    requires { i ≤ length bytes.now }
+    ensures { MatchOption result (length bytes.now ≤ i + 1) (λ s. Shows bytes.now i s.shown s.next) }
 {
-    let u = unit_at(bytes, i);
-    let v = unit_at(bytes, i + 2);
-    if is_pair(u, v) {
-        return Step {
-            byte: 0,
-            next: i + 4,
-        };
+    let u = unit_at(bytes, i)?;
+    if let Some(v) = unit_at(bytes, i + 2) {
+        if is_pair(u, v) {
+            return Some(Step {
+                shown: None,
+                next: i + 4,
+            });
+        }
     }
-    Step {
-        byte: kept_alone(u),
+    Some(Step {
+        shown: kept_alone(u),
         next: i + 2,
-    }
+    })
 }
 
 // How many bytes the text of the bytes has, for who does not want it written. A last odd byte counts for nothing.
+// The place moves by a step's two or four bytes. A walk shared with write_text would call a closure that changes what it
+// captures, the count or the buffer, and its contract would say for both what each loop's invariant says here: no plainer.
 pub fn utf16_ascii_count(bytes: &[u8]) -> usize
     ensures { result ≡ length (utf16_text bytes.now) }
 {
     let mut i = 0;
     let mut n = 0;
-    while 2 <= bytes.len() - i {
-        let s = next_shown(bytes, i);
-        i = s.next;
-        if s.byte != 0 {
+    while let Some(step) = next_shown(bytes, i) {
+        i = step.next;
+        if step.shown.is_some() {
             n += 1;
         }
     }
@@ -106,11 +92,10 @@ fn write_text(bytes: &[u8], out: &mut [u8]) -> usize
 {
     let mut i = 0;
     let mut n = 0;
-    while 2 <= bytes.len() - i {
-        let s = next_shown(bytes, i);
-        i = s.next;
-        if s.byte != 0 {
-            out[n] = s.byte;
+    while let Some(step) = next_shown(bytes, i) {
+        i = step.next;
+        if let Some(b) = step.shown {
+            out[n] = b;
             n += 1;
         }
     }
@@ -118,15 +103,16 @@ fn write_text(bytes: &[u8], out: &mut [u8]) -> usize
 }
 
 // The text of the bytes, to the front of out, whose other bytes stay as they are. A unit shows one byte at most.
-pub fn bytes_to_utf16_ascii(bytes: &[u8], out: &mut [u8]) -> Utf16Ascii
+#[tactic(auto, using(std::proofs::lemmas::Bool::Decides::nat_tests), unfolding(crate::specs::Utf16::utf16_answer, crate::specs::Utf16::utf16_leaves))]
+pub fn bytes_to_utf16_ascii(bytes: &[u8], out: &mut [u8]) -> Result<usize, Utf16Error>
     ensures answer { result ≡ utf16_answer bytes.now (length out.old) }
     ensures buffer { out.new ≡ utf16_leaves bytes.now out.old }
 {
     if bytes.len() % 2 == 1 {
-        return Utf16Ascii::OddLength;
+        return Err(Utf16Error::OddLength);
     }
     if out.len() < bytes.len() / 2 {
-        return Utf16Ascii::NoRoom;
+        return Err(Utf16Error::NoRoom);
     }
-    Utf16Ascii::Written(write_text(bytes, out))
+    Ok(write_text(bytes, out))
 }

@@ -1,121 +1,101 @@
 // What util answers to a vector's input, as bytes.
-ghost use Rattle.std.specs.Prelude.{◌≡◌, length};
+ghost use Rattle.std.specs.Prelude.{◌≤◌, length};
 
-use super::hex::{CHANGED, MALFORMED, ROOM};
-use check::same;
-use util::Utf16Ascii;
+use std::fmt;
+use util::Utf16Error;
+
+// Room for the bytes of a word of a line, and for those of an answer.
+pub(crate) const ROOM: usize = 256;
 
 // What a buffer holds before it is lent, so that a byte written past a text shows.
 const UNTOUCHED: u8 = 0xa5;
 
-// The most significant byte comes first.
-fn put32(x: u32, out: &mut [u8; ROOM]) -> usize
-    requires { length out.old ≡ 256 }
-    ensures { length out.new ≡ 256 }
+// Why there is no answer: what was asked cannot be read, or a text went past its end, or an answer that should have left the
+// lent buffer alone did not.
+#[derive(Clone, Copy, PartialEq, Eq)]
+pub(crate) enum Fault {
+    Malformed,
+    Changed,
+}
+
+impl fmt::Display for Fault {
+    fn fmt<W: fmt::Write>(&self, f: &mut fmt::Formatter<W>) -> fmt::Result {
+        match self {
+            Fault::Malformed => write!(f, "malformed"),
+            Fault::Changed => write!(f, "the buffer was changed behind the text"),
+        }
+    }
+}
+
+// Bytes at the front of the room.
+fn put<'a>(bytes: &[u8], room: &'a mut [u8]) -> &'a [u8]
+    requires { length bytes.now ≤ length room.old }
 {
-    out[0] = (x / 16777216) as u8;
-    out[1] = (x / 65536 % 256) as u8;
-    out[2] = (x / 256 % 256) as u8;
-    out[3] = (x % 256) as u8;
-    4
+    let front = &mut room[..bytes.len()];
+    front.copy_from_slice(bytes);
+    front
 }
 
 // CRC32 of an input that comes in pieces of 1, 2, 3, .. bytes.
 fn pieces(input: &[u8]) -> u32 {
     let mut c = util::crc32_start();
-    let mut size = 1;
-    let mut i = 0;
-    while size < input.len() - i {
-        let end = i + size;
-        c = util::crc32_more(c, &input[i..end]);
-        i = end;
-        size += 1;
+    let mut rest = input;
+    for size in 1..=input.len() {
+        let Some((piece, behind)) = rest.split_at_checked(size) else {
+            break;
+        };
+        c = util::crc32_more(c, piece);
+        rest = behind;
     }
-    c = util::crc32_more(c, &input[i..]);
-    util::crc32_final(c)
+    util::crc32_final(util::crc32_more(c, rest))
 }
 
-fn is_untouched(lent: &[u8; ROOM], from: usize) -> bool {
-    let mut i = from;
-    while i < ROOM {
-        if lent[i] != UNTOUCHED {
-            return false;
-        }
-        i += 1;
-    }
-    true
-}
-
-// The code, and the n bytes of the text. No byte behind the text may have been written.
-fn put_text(code: u8, lent: &[u8; ROOM], n: usize, out: &mut [u8; ROOM]) -> usize
-    requires { length out.old ≡ 256 }
-    ensures { length out.new ≡ 256 }
-{
+// The code, which is the first byte of a vector's answer, and the n bytes of the text. No byte behind the text may have been written.
+fn put_text<'a>(
+    code: u8,
+    lent: &[u8; ROOM],
+    n: usize,
+    room: &'a mut [u8; ROOM],
+) -> Result<&'a [u8], Fault> {
     if ROOM <= n {
-        return MALFORMED;
+        return Err(Fault::Malformed);
     }
-    if !is_untouched(lent, n) {
-        return CHANGED;
+    if !lent[n..].iter().all(|b| *b == UNTOUCHED) {
+        return Err(Fault::Changed);
     }
-    out[0] = code;
-    let mut i = 0;
-    while i < n {
-        out[i + 1] = lent[i];
-        i += 1;
-    }
-    n + 1
+    room[0] = code;
+    room[1..=n].copy_from_slice(&lent[..n]);
+    Ok(&room[..=n])
 }
 
-fn untouched() -> [u8; ROOM]
-    ensures { length result ≡ 256 }
-{
-    [UNTOUCHED; ROOM]
+// The text of an input, written to a buffer of this size.
+fn utf16<'a>(input: &[u8], size: usize, room: &'a mut [u8; ROOM]) -> Result<&'a [u8], Fault> {
+    if ROOM < size {
+        return Err(Fault::Malformed);
+    }
+    let mut lent = [UNTOUCHED; ROOM];
+    let (code, n) = match util::bytes_to_utf16_ascii(input, &mut lent[..size]) {
+        Ok(n) => (0, n),
+        Err(Utf16Error::OddLength) => (1, 0),
+        Err(Utf16Error::NoRoom) => (2, 0),
+    };
+    put_text(code, &lent, n, room)
 }
 
-// The text of an input, written to a buffer with the given room.
-fn utf16(input: &[u8], room: usize, out: &mut [u8; ROOM]) -> usize
-    requires { length out.old ≡ 256 }
-    ensures { length out.new ≡ 256 }
-{
-    if ROOM < room {
-        return MALFORMED;
-    }
-    let mut lent = untouched();
-    match util::bytes_to_utf16_ascii(input, &mut lent[0..room]) {
-        Utf16Ascii::Written(n) => put_text(0, &lent, n, out),
-        Utf16Ascii::OddLength => put_text(1, &lent, 0, out),
-        Utf16Ascii::NoRoom => put_text(2, &lent, 0, out),
-    }
-}
-
-// The answer to an input, to the front of out, and how many bytes it has.
-pub(crate) fn answer(kind: &[u8], input: &[u8], out: &mut [u8; ROOM]) -> usize
-    requires { length out.old ≡ 256 }
-    ensures { length out.new ≡ 256 }
-{
-    if same(kind, b"crc8") {
-        out[0] = util::crc8(input);
-        return 1;
-    }
-    if same(kind, b"crc32") {
-        return put32(util::crc32(input), out);
-    }
-    if same(kind, b"pieces") {
-        return put32(pieces(input), out);
-    }
-    if same(kind, b"utf8") {
-        out[0] = util::is_utf8(input) as u8;
-        return 1;
-    }
+// The answer to an input, at the front of the room.
+pub(crate) fn answer<'a>(
+    kind: &[u8],
+    input: &[u8],
+    room: &'a mut [u8; ROOM],
+) -> Result<&'a [u8], Fault> {
     let half = input.len() / 2;
-    if same(kind, b"utf16") {
-        return utf16(input, half, out);
+    match kind {
+        b"crc8" => Ok(put(&[util::crc8(input)], room)),
+        b"crc32" => Ok(put(&util::crc32(input).to_be_bytes(), room)),
+        b"pieces" => Ok(put(&pieces(input).to_be_bytes(), room)),
+        b"utf8" => Ok(put(&[u8::from(util::is_utf8(input))], room)),
+        b"utf16" => utf16(input, half, room),
+        b"room" => utf16(input, half.checked_sub(1).ok_or(Fault::Malformed)?, room),
+        _ => Err(Fault::Malformed),
     }
-    if half == 0 {
-        return MALFORMED;
-    }
-    if same(kind, b"room") {
-        return utf16(input, half - 1, out);
-    }
-    MALFORMED
 }

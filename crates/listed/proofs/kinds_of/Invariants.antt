@@ -1,11 +1,12 @@
--- `listed::kinds_of` meets its contract. The loop's invariant: the table is that of the adapters from i on.
-use Rattle.std.proofs.Common.{◌≡◌, ◌≤◌, length, drop}
+-- The loop of `kinds_of`: the adapters that are left, and those that were taken, are the list; the table is that of those taken.
+use Rattle.std.proofs.Common.{◌≡◌, List, ◌++◌}
+use Rattle.std.specs.Iterator.Adapters.{rev_source}
+use Rattle.std.specs.Slice.Iter.{iter_rest}
+use Rattle.listed.specs.declared.Adapter.{Adapter}
 use Rattle.feed.specs.Kinds.{table_of}
 use Rattle.listed.specs.Pairs.{pairs_of}
 use Rattle.listed.proofs.kinds_of.Given as goal
 
-abbrev pub invariant-loop-i : goal.invariant-loop-i
-invariant-loop-i l = (l.i ≤ length l.list) × (l.kinds.of ≡ table_of (pairs_of (drop l.i l.list)))
-
-abbrev pub decreases-loop-i : goal.decreases-loop-i
-decreases-loop-i l = l.i
+abbrev pub invariant-loop-adapter : goal.invariant-loop-adapter
+invariant-loop-adapter l =
+    (taken : List Adapter) × (iter_rest (rev_source l.adapter-iterator) ++ taken ≡ l.list) × (l.kinds.of ≡ table_of (pairs_of taken))

@@ -12,6 +12,6 @@ use Rattle.capi.proofs.feeding.drom_finish.Goals as goal
 pub returns : goal.returns
 returns c =
     let a = c.args in
-    let state = le-ltb (length a.state.now) 388 c.if-state-lt388.false in
-    let room = le-ltb (length a.report.now) 96 c.if-report-lt96.false in
+    let state = le-ltb (length a.state.now) 388 c.if-state-lt-STATE_SIZE.false in
+    let room = le-ltb (length a.report.now) 96 c.if-report-lt-REPORT_SIZE.false in
     let finished = c.finish-r.ensures ∙ ap finish_of c.state_in-s.ensures in record { answer = rw (state, room) (ap (λ (r : Report). r.number) finished); report = rw (state, room) (c.put_report.ensures.holds ∙ ap (λ (r : Report). onto (report_bytes r) a.report.now) finished) }

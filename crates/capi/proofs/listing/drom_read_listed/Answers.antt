@@ -1,9 +1,14 @@
--- `capi::drom_read_listed` meets its contract: by the table of the list it reads as by the list's bytes (`reads_by_table`).
+-- `capi::drom_read_listed` meets its contract: the table of the list, as bytes, reads as the list does.
 -- Assumes nothing.
-use Rattle.capi.proofs.ListingLaws.{reads_by_table}
+use Rattle.std.proofs.Common.{length}
+use Rattle.listed.proofs.ListLaws.{table_report, table_leaves}
 use Rattle.capi.proofs.listing.drom_read_listed.Goals as goal
 
 pub returns : goal.returns
 returns c =
-    let said = reads_by_table c.args.list.now c.kinds_of-kinds.result.of c.kinds_of-kinds.ensures c.read_with.ensures in
-    record { answer = said.answers; records = said.writes; report = said.tells }
+    let list = c.args.list.now in
+    let drom = c.args.drom.now in
+    let records = c.args.records.now in
+    let report = table_report list drom (length records) in
+    let leaves = table_leaves list drom records in
+    record { answer = cc; records = cc; report = cc }

@@ -1,26 +1,25 @@
 -- `drom::parts::nth_entry` meets its contract: where there is an entry, as many bytes as the first says stand at its offset.
 -- Assumes nothing.
-use mathlib.Core.Path.{◌≡◌, sym, ap, ◌∙◌}
-use Prim.Native.Nat.{ℕ, ◌+◌, ◌-◌}
+use mathlib.Core.Path.{◌≡◌, refl, sym}
+use Prim.Native.Nat.{◌+◌, ◌-◌}
 use native.Mathlib.Omega.{arith}
-use lib.ListN.{get_or, take, drop}
+use lib.ListN.{get_or}
 use Rattle.drom.proofs.PartLaws.{entry_none, entry_stands}
 use Rattle.drom.proofs.parts.nth_entry.Goals as goal
 
-pub returns-then-at-eq0 : goal.returns-then-at-eq0
-returns-then-at-eq0 c =
-    let a = c.args in
-    c.none.ensures ∙ sym (entry_none a.list.now a.drom.now a.n _ c.entry_offset-at.ensures c.if-at-eq0.true)
+pub returns-in_default : goal.returns-in_default
+returns-in_default c = sym (entry_none c.args.list.now c.args.drom.now c.args.n 0 c.in_default.ensures.place refl)
 
 pub bounds-drom-at : goal.bounds-drom-at
-bounds-drom-at c = (entry_stands c.args.list.now c.args.drom.now c.args.n _ c.entry_offset-at.ensures c.if-at-eq0.false).before
+bounds-drom-at c = (entry_stands c.args.list.now c.args.drom.now c.args.n c.in-Some.at c.in-Some.ensures.place (λ z. omega (arith, c.in-Some.ensures.some))).before
 
-pub slice_bounds-result-end : goal.slice_bounds-result-end
-slice_bounds-result-end c = (entry_stands c.args.list.now c.args.drom.now c.args.n _ c.entry_offset-at.ensures c.if-at-eq0.false).inside
+pub slice_bounds-result-end-2 : goal.slice_bounds-result-end-2
+slice_bounds-result-end-2 c =
+    let stands = entry_stands c.args.list.now c.args.drom.now c.args.n c.in-Some.at c.in-Some.ensures.place (λ z. omega (arith, c.in-Some.ensures.some)) in
+    omega (arith, c.from.ensures, stands.inside)
 
 pub returns : goal.returns
 returns c =
-    let drom = c.args.drom.now in
-    let at = c.entry_offset-at.result in
-    let long : at + get_or drom at 0 - at ≡ get_or drom at 0 = omega arith in
-    ap (λ (k : ℕ). take k (drop at drom)) long ∙ sym (entry_stands c.args.list.now c.args.drom.now c.args.n _ c.entry_offset-at.ensures c.if-at-eq0.false).is
+    let stands = entry_stands c.args.list.now c.args.drom.now c.args.n c.in-Some.at c.in-Some.ensures.place (λ z. omega (arith, c.in-Some.ensures.some)) in
+    let long : c.in-Some.at + c.from.result - c.in-Some.at ≡ get_or c.args.drom.now c.in-Some.at 0 = omega (arith, c.from.ensures) in
+    rw long (sym stands.is)

@@ -9,27 +9,27 @@ use Rattle.drom.proofs.WalkLaws.{step_none, step_on, walk_past}
 use Rattle.drom.proofs.PartLaws.{offset_none, offset_here, offset_left}
 use Rattle.drom.proofs.parts.offset_from.Goals as goal
 
-pub returns-then-end-eq0 : goal.returns-then-end-eq0
-returns-then-end-eq0 c =
-    let none_there = step_none _ _ c.loop-at.at _ c.loop-at-test.true c.entry_end-end.ensures c.if-end-eq0.true in
-    sym (offset_none c.loop-at.at c.loop-at.left none_there) ∙ c.loop-at.invariant.1
+pub returns-in_err-end-clause-place : goal.returns-in_err-end-clause-place
+returns-in_err-end-clause-place c =
+    let none_there = step_none _ _ c.loop-at.at c.loop-at-test.true c.in_err-end.ensures in
+    rw c.from_residual.ensures (sym (offset_none c.loop-at.at c.loop-at.left none_there) ∙ c.loop-at.invariant.same)
 
-pub returns-then-left-eq0 : goal.returns-then-left-eq0
-returns-then-left-eq0 c =
-    let on = step_on _ _ _ _ c.loop-at-test.true c.entry_end-end.ensures c.if-end-eq0.false in
-    sym (offset_here on) ∙ ap (offset_in c.loop-at.at _) (sym c.if-left-eq0.true) ∙ c.loop-at.invariant.1
+pub returns-then-left-eq0-clause-place : goal.returns-then-left-eq0-clause-place
+returns-then-left-eq0-clause-place c =
+    let on = step_on _ _ _ c.loop-at-test.true _ c.in_ok-end.ensures in
+    sym (offset_here on) ∙ ap (offset_in c.loop-at.at _) (sym c.if-left-eq0.true) ∙ c.loop-at.invariant.same
 
 pub loop-at-smaller : goal.loop-at-smaller
 loop-at-smaller c =
-    let on = step_on _ _ _ _ c.loop-at-test.true c.entry_end-end.ensures c.if-end-eq0.false in
+    let on = step_on _ _ _ c.loop-at-test.true _ c.in_ok-end.ensures in
     omega (arith, on.on, on.inside)
 
 pub loop-at-preserved : goal.loop-at-preserved
 loop-at-preserved c =
-    let on = step_on _ _ _ _ c.loop-at-test.true c.entry_end-end.ensures c.if-end-eq0.false in
-    (on.inside, sym (offset_left on c.loop-at.left c.if-left-eq0.false) ∙ c.loop-at.invariant.1)
+    let on = step_on _ _ _ c.loop-at-test.true _ c.in_ok-end.ensures in
+    record { on = omega (arith, on.on); inside = on.inside; same = sym (offset_left on c.loop-at.left c.if-left-eq0.false) ∙ c.loop-at.invariant.same }
 
-pub returns : goal.returns
-returns c =
+pub returns-clause-place : goal.returns-clause-place
+returns-clause-place c =
     let past = walk_past (kind_in _) _ c.loop-at.at c.loop-at-test.false in
-    sym (offset_none c.loop-at.at c.loop-at.left (ap (λ (w : Walked). w.entries) past)) ∙ c.loop-at.invariant.1
+    sym (offset_none c.loop-at.at c.loop-at.left (ap (λ (w : Walked). w.entries) past)) ∙ c.loop-at.invariant.same

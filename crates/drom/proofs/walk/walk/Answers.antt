@@ -10,13 +10,13 @@ pub loop-at-init : goal.loop-at-init
 loop-at-init c = going_start _ _ _ _ c.requires.1
 
 pub loop-at-smaller : goal.loop-at-smaller
-loop-at-smaller c = omega (arith, going_on _ _ _ _ _ _ _ _ c.loop-at.invariant c.loop-at-test.true _ c.entry_at.ensures.buffer _ (sym c.entry_at.ensures.answer ∙ c.in-Record.is))
+loop-at-smaller c = omega (arith, going_on _ _ _ _ _ _ _ _ c.loop-at.invariant c.loop-at-test.true _ c.entry_at.ensures.buffer _ (sym c.entry_at.ensures.answer ∙ c.in-Ok.is))
 
 pub loop-at-preserved : goal.loop-at-preserved
-loop-at-preserved c = going_next _ _ _ _ _ _ _ _ c.loop-at.invariant c.loop-at-test.true _ c.entry_at.ensures.buffer _ c.requires.0 c.requires.2 c.requires.3 (sym c.entry_at.ensures.answer ∙ c.in-Record.is)
+loop-at-preserved c = rw c.from-at.ensures (going_next _ _ _ _ _ _ _ _ c.loop-at.invariant c.loop-at-test.true _ c.entry_at.ensures.buffer _ c.requires.0 c.requires.2 c.requires.3 (sym c.entry_at.ensures.answer ∙ c.in-Ok.is))
 
-pub returns-in-Refused : goal.returns-in-Refused
-returns-in-Refused c = going_refused _ _ _ _ _ _ _ _ c.loop-at.invariant c.loop-at-test.true _ c.entry_at.ensures.buffer _ (sym c.entry_at.ensures.answer ∙ c.in-Refused.is)
+pub returns-in-Err : goal.returns-in-Err
+returns-in-Err c = going_refused _ _ _ _ _ _ _ _ c.loop-at.invariant c.loop-at-test.true _ c.entry_at.ensures.buffer _ (sym c.entry_at.ensures.answer ∙ c.in-Err.is)
 
 pub returns : goal.returns
 returns c = going_end _ _ _ _ _ _ _ _ c.loop-at.invariant c.loop-at-test.false

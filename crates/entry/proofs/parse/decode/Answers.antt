@@ -6,35 +6,35 @@ use Rattle.entry.specs.Rows.{unknown, unused}
 use Rattle.entry.proofs.DecodeLaws.{row_short, row_plain, row_is_lem, row_unknown, row_generic, row_adapter, row_unused, decode_row}
 use Rattle.entry.proofs.parse.decode.Goals as goal
 
-pub returns-then-bytes-eq0 : goal.returns-then-bytes-eq0
-returns-then-bytes-eq0 c =
+pub returns-in-empty : goal.returns-in-empty
+returns-in-empty c =
     let a = c.args in
     let bs = a.bytes.now in
     sym (decode_row a.kind bs unknown (row_unknown a.kind bs (omega arith)) ∙ row_short unknown bs (omega arith))
 
-pub returns-then-bytes-eq1 : goal.returns-then-bytes-eq1
-returns-then-bytes-eq1 c =
+pub returns-in-len1 : goal.returns-in-len1
+returns-in-len1 c =
     let a = c.args in
     let bs = a.bytes.now in
     sym (decode_row a.kind bs unknown (row_unknown a.kind bs (omega arith)) ∙ row_plain unknown bs refl (omega arith))
 
-pub returns-then-b-lt128 : goal.returns-then-b-lt128
-returns-then-b-lt128 c =
+pub returns-in-0-to-127 : goal.returns-in-0-to-127
+returns-in-0-to-127 c =
     let a = c.args in
     let bs = a.bytes.now in
-    c.generic_entry.ensures ∙ sym (decode_row a.kind bs _ (row_generic a.kind bs (omega arith) c.if-b-lt128.true))
+    c.generic_entry.ensures ∙ sym (decode_row a.kind bs _ (row_generic a.kind bs (omega arith) (omega arith)))
 
-pub returns-then-b-lt192 : goal.returns-then-b-lt192
-returns-then-b-lt192 c =
+pub returns-in-128-to-191 : goal.returns-in-128-to-191
+returns-in-128-to-191 c =
     let a = c.args in
     let bs = a.bytes.now in
     let b = c.type_inv.bytes 1 in
-    c.adapter_entry.ensures ∙ sym (decode_row a.kind bs _ (row_adapter a.kind bs (omega arith) c.if-b-lt128.false (omega arith) c.if-b-lt192.true))
+    c.adapter_entry.ensures ∙ sym (decode_row a.kind bs _ (row_adapter a.kind bs (omega arith) (omega arith) (omega arith) (omega arith)))
 
-pub returns : goal.returns
-returns c =
+pub returns-in-192-to-255 : goal.returns-in-192-to-255
+returns-in-192-to-255 c =
     let a = c.args in
     let bs = a.bytes.now in
     let b = c.type_inv.bytes 1 in
     row_is_lem unused bs refl (omega arith) c.unused_adapter.ensures
-    ∙ sym (decode_row a.kind bs _ (row_unused a.kind bs (omega arith) c.if-b-lt128.false (omega arith) c.if-b-lt192.false))
+    ∙ sym (decode_row a.kind bs _ (row_unused a.kind bs (omega arith) (omega arith) (omega arith) (omega arith)))

@@ -1,10 +1,11 @@
--- The loop of `table_of` goes from the list's end, so that what was seen before is overwritten: the table is that of the adapters
--- from `i` on. The measure is `i`.
+-- The loop of `table_of` goes from the list's end, so that what was seen before is overwritten: the table is that of the pairs taken.
+use Rattle.std.proofs.Common.{◌≡◌}
+use Rattle.std.specs.Iterator.Adapters.{rev_source}
+use Rattle.std.specs.Slice.Iter.{chunks_exact_size, chunks_exact_rest}
 use Rattle.feed.proofs.OpenLaws.{Tabled}
 use Rattle.feed.proofs.feeding.table_of.Given as goal
 
-abbrev pub invariant-loop-i : goal.invariant-loop-i
-invariant-loop-i l = Tabled l.list l.kinds l.i
-
-abbrev pub decreases-loop-i : goal.decreases-loop-i
-decreases-loop-i l = l.i
+abbrev pub invariant-loop-pair : goal.invariant-loop-pair
+invariant-loop-pair l =
+    let rest = rev_source l.pair-iterator in
+    (chunks_exact_size rest ≡ 2) × Tabled l.list l.kinds (chunks_exact_rest rest)

@@ -1,11 +1,7 @@
--- `lines::words::large_number` meets its contract. The invariant: the place in the word.
--- Assumes nothing.
-use Prim.Native.Nat.{◌≤◌, ◌-◌}
-use lib.ListN.{length}
+-- The digits that are left, behind the number so far, write what all do.
+use Rattle.std.proofs.Common.{◌≡◌, drop}
+use Rattle.lines.specs.Words.{decimal_after}
 use Rattle.lines.proofs.words.large_number.Given as goal
 
-abbrev pub invariant-loop-i : goal.invariant-loop-i
-invariant-loop-i l = l.i ≤ length l.word
-
-abbrev pub decreases-loop-i : goal.decreases-loop-i
-decreases-loop-i l = length l.word - l.i
+abbrev pub invariant-loop-b : goal.invariant-loop-b
+invariant-loop-b l = decimal_after l.n (drop l.b-index l.word) ≡ decimal_after 0 l.word

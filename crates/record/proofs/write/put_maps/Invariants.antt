@@ -1,14 +1,14 @@
--- The loop of `put_maps`: the maps before byte `i` are written, and the buffer is as long as lent. The measure is how many bytes are left.
-use Prim.Native.Nat.{◌-◌, ◌≤◌}
+-- The loop of `put_maps`: the maps before those that are left are written, and for these there is room.
+use Prim.Native.Nat.{◌+◌, ◌≤◌}
 use mathlib.Core.Path.{◌≡◌}
-use lib.ListN.{length, drop}
+use lib.ListN.{length}
+use Rattle.std.specs.Slice.Iter.{chunks_exact_size, chunks_exact_rest}
 use Rattle.bits.specs.Fields.{pack}
 use Rattle.record.specs.Record.{map_fields}
 use Rattle.record.proofs.Turns.{Writing}
 use Rattle.record.proofs.write.put_maps.Given as goal
 
-abbrev pub invariant-loop-i : goal.invariant-loop-i
-invariant-loop-i l = (l.i ≤ length l.maps) × (length l.out ≡ length l.initial.out) × Writing (pack (map_fields l.maps)) (pack (map_fields (drop l.i l.maps))) l.initial.out l.out l.i
-
-abbrev pub decreases-loop-i : goal.decreases-loop-i
-decreases-loop-i l = length l.maps - l.i
+abbrev pub invariant-loop-m : goal.invariant-loop-m
+invariant-loop-m l =
+    let rest = chunks_exact_rest l.m-iterator in
+    (chunks_exact_size l.m-iterator ≡ 3) × (l.n + length rest ≤ length l.out) × Writing (pack (map_fields l.maps)) (pack (map_fields rest)) l.initial.out l.out l.n

@@ -1,5 +1,4 @@
--- The loop of `put_ranks`: the ranks before byte `i` are written, and the buffer is as long as lent. The measure is how many bytes are left.
-use Prim.Native.Nat.{◌-◌, ◌≤◌}
+-- The loop of `put_ranks`: the ranks before byte `i` are written, and the buffer is as long as lent.
 use mathlib.Core.Path.{◌≡◌}
 use lib.ListN.{length, drop}
 use Rattle.bits.specs.Fields.{pack}
@@ -8,7 +7,4 @@ use Rattle.record.proofs.Turns.{Writing}
 use Rattle.record.proofs.write.put_ranks.Given as goal
 
 abbrev pub invariant-loop-i : goal.invariant-loop-i
-invariant-loop-i l = (l.i ≤ length l.ranks) × (length l.out ≡ length l.initial.out) × Writing (pack (rank_fields l.ranks)) (pack (rank_fields (drop l.i l.ranks))) l.initial.out l.out l.i
-
-abbrev pub decreases-loop-i : goal.decreases-loop-i
-decreases-loop-i l = length l.ranks - l.i
+invariant-loop-i l = (length l.out ≡ length l.initial.out) × Writing (pack (rank_fields l.ranks)) (pack (rank_fields (drop l.i l.ranks))) l.initial.out l.out l.i

@@ -1,10 +1,10 @@
 -- `record::write_by_row` meets its contract. It follows the definitions: no room, a record, or a refusal.
 -- Assumes nothing.
-use mathlib.Core.Path.{refl, sym, ap, ◌∙◌}
+use mathlib.Core.Path.{refl, sym, ap}
 use native.Mathlib.Omega.{arith}
 use borrow.Author.Tests.{lt-ltb, le-ltb}
+use Rattle.std.specs.Prelude.{Ok}
 use Rattle.record.specs.Write.{write_answer, write_leaves}
-use Rattle.record.specs.declared.write.Written.TheVariants as written
 use Rattle.record.proofs.Known.{decode_row}
 use Rattle.record.proofs.write.write_by_row.Goals as goal
 
@@ -15,14 +15,14 @@ returns-then-out-bytes c = rw (lt-ltb _ _ c.if-out-bytes.true) record { answer =
 pub put_record-requires : goal.put_record-requires
 put_record-requires c =
     let a = c.args in
-    record { decodes = decode_row a.kind a.bytes.now _ (sym c.decode.ensures ∙ c.in-Is.is); room = omega arith }
+    record { decodes = decode_row a.kind a.bytes.now _ (sym c.in-Ok.ensures); room = omega arith }
 
-pub returns-in-Is : goal.returns-in-Is
+pub returns-in-Ok : goal.returns-in-Ok
 unfolding write_answer write_leaves
-returns-in-Is c =
+returns-in-Ok c =
     let wrote = c.put_record.ensures in
-    rw (le-ltb _ _ c.if-out-bytes.false, sym c.decode.ensures ∙ c.in-Is.is) record { answer = ap written.Record wrote.counts; buffer = wrote.holds }
+    rw (le-ltb _ _ c.if-out-bytes.false, sym c.in-Ok.ensures) record { answer = ap Ok wrote.counts; buffer = wrote.holds }
 
-pub returns-in-Refused : goal.returns-in-Refused
+pub returns-in-Err : goal.returns-in-Err
 unfolding write_answer write_leaves
-returns-in-Refused c = rw (le-ltb _ _ c.if-out-bytes.false, sym c.decode.ensures ∙ c.in-Refused.is) record { answer = refl; buffer = refl }
+returns-in-Err c = rw (le-ltb _ _ c.if-out-bytes.false, sym c.in-Err.ensures) record { answer = refl; buffer = refl }

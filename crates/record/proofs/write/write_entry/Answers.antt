@@ -5,9 +5,11 @@ use Prim.Native.Nat.{◌/◌}
 use native.Mathlib.Omega.{arith}
 use lib.ListN.{length}
 use borrow.Author.Tests.{lt-ltb, le-ltb}
+use Rattle.std.specs.Prelude.{Ok}
+use Rattle.bits.proofs.LawsFront.{fitted}
 use Rattle.record.specs.Write.{write_answer, write_leaves}
-use Rattle.record.specs.declared.write.Written.TheVariants as written
 use Rattle.record.proofs.Known.{decode_one, record_one}
+use Rattle.record.proofs.RecordLaws.{head_length_lem}
 use Rattle.record.proofs.write.write_entry.Goals as goal
 
 pub returns-then-out-lt4 : goal.returns-then-out-lt4
@@ -21,6 +23,6 @@ unfolding write_answer write_leaves
 returns c =
     let a = c.args in
     let bs = a.bytes.now in
-    let wrote = c.put_head.ensures in
+    let wrote = fitted (rw c.head.ensures at c.put.ensures) (omega (arith, head_length_lem 0 a.offset 1, c.if-out-lt4.false)) in
     rw (le-ltb (length a.out.now / 4) (length bs) (omega (arith, c.if-bytes-ne1.false, c.if-out-lt4.false)), decode_one bs c.if-bytes-ne1.false a.kind, record_one bs c.if-bytes-ne1.false a.offset)
-    record { answer = ap written.Record wrote.counts; buffer = wrote.holds }
+    record { answer = ap Ok wrote.counts; buffer = wrote.holds }

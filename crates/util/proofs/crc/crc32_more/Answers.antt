@@ -2,6 +2,7 @@
 -- Assumes nothing.
 use Rattle.std.proofs.Common.{refl}
 use Rattle.util.specs.Crc.{bit_of32}
+use Rattle.util.specs.declared.tables.TheConstants.{CRC32_ROWS}
 use Rattle.util.proofs.CrcLaws.{stepped, rowed}
 use Rattle.util.proofs.crc.crc32_more.Goals as goal
 
@@ -9,6 +10,6 @@ pub by_byte-requires : goal.by_byte-requires
 unfolding bit_of32
 by_byte-requires c = stepped _ tt refl
 
-pub by_eight-requires : goal.by_eight-requires
+pub invariant_of-rows : goal.invariant_of-rows
 unfolding bit_of32
-by_eight-requires c = rowed _ tt refl
+invariant_of-rows c = record { rowed = rowed CRC32_ROWS tt refl }

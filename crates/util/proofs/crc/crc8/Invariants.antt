@@ -1,10 +1,7 @@
--- The loop of `crc8`: from the register so far, the bytes from `i` on come to what all come to from FF. The measure is how many bytes are left.
-use Rattle.std.proofs.Common.{◌≡◌, ◌-◌, ◌≤◌, length, drop}
+-- The loop of `crc8`: from the register so far, the bytes from the index on come to what all come to from FF.
+use Rattle.std.proofs.Common.{◌≡◌, drop}
 use Rattle.util.specs.Crc.{over, byte_of8}
 use Rattle.util.proofs.crc.crc8.Given as goal
 
-abbrev pub invariant-loop-i : goal.invariant-loop-i
-invariant-loop-i l = (l.i ≤ length l.bytes) × (over byte_of8 l.c (drop l.i l.bytes) ≡ over byte_of8 l.initial.c l.bytes)
-
-abbrev pub decreases-loop-i : goal.decreases-loop-i
-decreases-loop-i l = length l.bytes - l.i
+abbrev pub invariant-loop-b : goal.invariant-loop-b
+invariant-loop-b l = over byte_of8 l.c (drop l.b-index l.bytes) ≡ over byte_of8 0xFF l.bytes

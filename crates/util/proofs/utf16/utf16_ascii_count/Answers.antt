@@ -5,4 +5,4 @@ use Rattle.util.proofs.Text.{counting_end}
 use Rattle.util.proofs.utf16.utf16_ascii_count.Goals as goal
 
 pub returns : goal.returns
-returns c = counting_end _ _ _ c.loop-i.invariant (omega arith)
+returns c = counting_end _ _ _ c.loop-step.invariant (omega arith)

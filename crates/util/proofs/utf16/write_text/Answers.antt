@@ -5,4 +5,4 @@ use Rattle.util.proofs.Text.{writing_end}
 use Rattle.util.proofs.utf16.write_text.Goals as goal
 
 pub returns : goal.returns
-returns c = writing_end _ _ _ _ _ c.requires c.loop-i.invariant (omega arith)
+returns c = writing_end _ _ _ _ _ c.requires c.loop-step.invariant (omega arith)

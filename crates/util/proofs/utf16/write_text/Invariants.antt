@@ -4,8 +4,8 @@ use Rattle.std.proofs.Common.{◌-◌, length}
 use Rattle.util.proofs.Text.{Writing}
 use Rattle.util.proofs.utf16.write_text.Given as goal
 
-abbrev pub invariant-loop-i : goal.invariant-loop-i
-invariant-loop-i l = Writing l.bytes l.initial.out l.out l.i l.n
+abbrev pub invariant-loop-step : goal.invariant-loop-step
+invariant-loop-step l = Writing l.bytes l.initial.out l.out l.i l.n
 
-abbrev pub decreases-loop-i : goal.decreases-loop-i
-decreases-loop-i l = length l.bytes - l.i
+abbrev pub decreases-loop-step : goal.decreases-loop-step
+decreases-loop-step l = length l.bytes - l.i

@@ -1,0 +1,12 @@
+-- The loop of `take_entries`, `Along`: the entries so far lead where their bytes do, one by one. The measure is how many bytes are left.
+use Prim.Native.Nat.{◌-◌}
+use lib.ListN.{length}
+use Rattle.feed.specs.Feed.{run_in}
+use Rattle.feed.proofs.AlongLaws.{Along}
+use Rattle.feed.proofs.feeding.State.take_entries.Given as goal
+
+abbrev pub invariant-loop-i : goal.invariant-loop-i
+invariant-loop-i l = Along (run_in l.initial.self l.initial.records) l.piece (run_in l.self l.records) l.i
+
+abbrev pub decreases-loop-i : goal.decreases-loop-i
+decreases-loop-i l = length l.piece - l.i

@@ -41,7 +41,8 @@ fn put_core(c: Core, out: &mut [u8]) -> usize
     REFUSAL + bits::put([c.refusal], &mut out[REFUSAL..])
 }
 
-// The 388 bytes of a state, from which the same state is read again.
+// The 388 bytes of a state, from which the same state is read again. Here and in the next two these bytes are asked for; the definitions
+// speak of a longer slice too, so that an array is no plainer.
 fn put_state(s: State, out: &mut [u8]) -> usize
     requires { state_size ≤ length out.old }
     ensures bytes { Wrote (state_bytes s) out.old out.new result }
@@ -53,7 +54,6 @@ fn put_state(s: State, out: &mut [u8]) -> usize
     KINDS + bits::put_all(&s.kinds, &mut out[KINDS..])
 }
 
-// Here and in the next two the 388 bytes are asked for. The definitions speak of a longer slice too, so that an array is no plainer.
 fn core_in(bytes: &[u8]) -> Core
     requires { state_size ≤ length bytes.now }
     ensures { result ≡ core_in bytes.now }

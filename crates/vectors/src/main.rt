@@ -12,7 +12,7 @@ use lines::words::unhex;
 use std::io;
 use std::io::Write;
 
-// The most bytes of standard input.
+// The most bytes of standard input. Memory is of a fixed size: no function allocates.
 const INPUT: usize = 65536;
 
 // The answer to a line, at the front of the room, and whether it is the expected one. A third space goes into the last word,

@@ -14,15 +14,17 @@ pub fn put<const N: usize>(bytes: [u8; N], out: &mut [u8]) -> usize
     put_all(&bytes, out)
 }
 
+// Byte by byte: `copy_from_slice` between two lent slices would have the archive for C need `memmove` from outside.
 pub fn put_all(bytes: &[u8], out: &mut [u8]) -> usize
     ensures { Put bytes.now out.old out.new result }
 {
-    let n = bytes.len();
-    if out.len() < n {
+    if out.len() < bytes.len() {
         return 0;
     }
-    out[..n].copy_from_slice(bytes);
-    n
+    for (i, b) in bytes.iter().enumerate() {
+        out[i] = *b;
+    }
+    bytes.len()
 }
 
 // The byte at an index, and 0 past the end, as the clause has it: document 01 counts bytes that are not there as 0.

@@ -1,4 +1,4 @@
--- What a reading answers and leaves, as one fact: a private function's contract cites it, and the theorem that feeding comes to the same.
+-- What a reading answers and leaves, as one fact, in which the theorems say that no second answer is right, and that feeding comes to the same.
 -- Assumes nothing.
 use Rattle.std.specs.Prelude.{◌≡◌, List, ℕ}
 use Rattle.capi.specs.Calls.{read_answer, read_records, read_report}

@@ -9,7 +9,9 @@
 mod feedings;
 mod whole;
 
-ghost use Rattle.std.specs.Prelude.{◌+◌, ◌≤◌, length, IfOk};
+ghost use Rattle.std.specs.Prelude.{◌+◌, ◌++◌, ◌≤◌, length, IfOk, OnOk};
+ghost use Rattle.std.specs.Fmt.{decimal};
+ghost use Rattle.std.specs.Io.KnownBytes.{Appends};
 ghost use Rattle.cuts.specs.Counts.{OfOneLine};
 
 use feedings::{among_empty, in_pieces, in_two};
@@ -18,6 +20,7 @@ use lines::words::{is_comment, unhex, word};
 use std::io;
 use std::io::{Read, Write};
 use std::ops::AddAssign;
+use streams::print_decimal;
 use whole::{Case, ENOUGH, LENT};
 
 // The most bytes of standard input, of a list and of a DROM. Memory is of a fixed size: no function allocates.
@@ -47,14 +50,24 @@ impl AddAssign for Tally {
     }
 }
 
+// Writes a number and the words after it.
+fn put<W: Write>(out: &mut W, n: u64, words: &[u8]) -> io::Result<()>
+    ensures { OnOk result (Appends (W.contents out.old) (W.contents out.new) (decimal n ++ words.now)) }
+{
+    print_decimal(out, n)?;
+    out.write_all(words)
+}
+
 // Writes a difference, of the feeding that `what` and `n` name, and counts it.
-fn counted<W: Write>(out: &mut W, line: u64, what: &str, n: usize, agrees: bool) -> io::Result<u64>
+fn counted<W: Write>(out: &mut W, line: u64, what: &[u8], n: usize, agrees: bool) -> io::Result<u64>
     ensures { IfOk result (λ count. count ≤ 1) }
 {
     if agrees {
         return Ok(0);
     }
-    writeln!(out, "line {line}: {what} {n} differs")?;
+    out.write_all(b"line ")?;
+    put(out, line, what)?;
+    put(out, n as u64, b" differs\n")?;
     Ok(1)
 }
 
@@ -67,7 +80,7 @@ fn cuts<W: Write>(out: &mut W, case: &Case) -> io::Result<u64>
     let mut differ: u64 = 0;
     for cut in 0..=fed.len() {
         let agrees = case.is_left_by(|records| in_two(list, fed, cut, records));
-        differ += counted(out, case.line, "cut at", cut, agrees)?;
+        differ += counted(out, case.line, b": cut at ", cut, agrees)?;
     }
     Ok(differ)
 }
@@ -82,9 +95,9 @@ fn pieces<W: Write>(out: &mut W, case: &Case) -> io::Result<u64>
     let bytes = case.is_left_by(|records| in_pieces(list, fed, 1, records));
     let among = case.is_left_by(|records| among_empty(list, fed, records));
     let larger = case.is_left_by(|records| in_pieces(list, fed, 64, records));
-    let first = counted(out, line, "pieces of", 1, bytes)?;
-    let second = counted(out, line, "among empty pieces, pieces of", 1, among)?;
-    let third = counted(out, line, "pieces of", 64, larger)?;
+    let first = counted(out, line, b": pieces of ", 1, bytes)?;
+    let second = counted(out, line, b": among empty pieces, pieces of ", 1, among)?;
+    let third = counted(out, line, b": pieces of ", 64, larger)?;
     Ok(first + second + third)
 }
 
@@ -104,21 +117,43 @@ fn over_structs<W: Write>(out: &mut W, case: &Case) -> io::Result<u64>
     }
     let agrees = case.is_left_by(|records| structs::read_structs(list, fed, records));
     let count = list.len() / 2;
-    counted(out, case.line, "structs, of which there are", count, agrees)
+    counted(
+        out,
+        case.line,
+        b": structs, of which there are ",
+        count,
+        agrees,
+    )
 }
 
-// What the other ways leave, against what the reading of the whole does.
-fn compare<W: Write>(out: &mut W, case: &Case) -> io::Result<Tally>
-    requires { length case.now.fed.now ≤ 4200 }
+// What the other ways leave, against what the reading of the whole does. Its buffer is made here, so that a line that cannot be
+// read goes without.
+fn compare<W: Write>(
+    out: &mut W,
+    line: u64,
+    list: &[u8],
+    drom: &[u8],
+    fed: &[u8],
+) -> io::Result<Tally>
+    requires { length fed.now ≤ 4200 }
     ensures { IfOk result (λ t. OfOneLine t) }
 {
-    let in_two = cuts(out, case)?;
-    let in_pieces = pieces(out, case)?;
-    let structs = over_structs(out, case)?;
+    let mut buffer = [LENT; ENOUGH];
+    let report = drom::read(list, drom, &mut buffer);
+    let case = Case {
+        line,
+        list,
+        fed,
+        report,
+        buffer: &buffer,
+    };
+    let in_two = cuts(out, &case)?;
+    let in_pieces = pieces(out, &case)?;
+    let structs = over_structs(out, &case)?;
     Ok(Tally {
         droms: 1,
-        feedings: case.fed.len() as u64 + 4,
-        readings: u64::from(is_of_structs(case.list)),
+        feedings: fed.len() as u64 + 4,
+        readings: u64::from(is_of_structs(list)),
         differ: in_two + in_pieces + structs,
     })
 }
@@ -128,7 +163,8 @@ fn compare<W: Write>(out: &mut W, case: &Case) -> io::Result<Tally>
 fn malformed<W: Write>(out: &mut W, line: u64) -> io::Result<Tally>
     ensures { IfOk result (λ t. OfOneLine t) }
 {
-    writeln!(out, "line {line}: malformed")?;
+    out.write_all(b"line ")?;
+    put(out, line, b": malformed\n")?;
     Ok(Tally {
         differ: 1,
         ..Tally::default()
@@ -159,16 +195,7 @@ fn compare_line<W: Write>(out: &mut W, line: u64, text: &[u8]) -> io::Result<Tal
     let (Some(list), Some(drom), Some(fed)) = (list, drom, fed) else {
         return malformed(out, line);
     };
-    let mut buffer = [LENT; ENOUGH];
-    let report = drom::read(list, drom, &mut buffer);
-    let case = Case {
-        line,
-        list,
-        fed,
-        report,
-        buffer: &buffer,
-    };
-    compare(out, &case)
+    compare(out, line, list, drom, fed)
 }
 
 // Not by lines' comparison, which counts right and wrong: here lines have numbers, and four counts are added up.
@@ -185,12 +212,10 @@ fn compare_input<R: Read, W: Write>(input: &mut R, out: &mut W) -> io::Result<()
     let mut room = [0; INPUT];
     let text = read_text(input, out, "lines", &mut room)?;
     let t = compare_lines(out, text)?;
-    write!(out, "{} DROMs, {} feedings, ", t.droms, t.feedings)?;
-    writeln!(
-        out,
-        "{} readings over structs, {} differ",
-        t.readings, t.differ
-    )
+    put(out, t.droms, b" DROMs, ")?;
+    put(out, t.feedings, b" feedings, ")?;
+    put(out, t.readings, b" readings over structs, ")?;
+    put(out, t.differ, b" differ\n")
 }
 
 fn main(rt: HostRuntime) -> io::Result<()> {

@@ -16,7 +16,7 @@ use Rattle.entry.specs.declared.refusal.Refusal.{Refusal}
 use Rattle.entry.specs.Refusals.{refusal_number, answer_number}
 use Rattle.entry.proofs.FitLaws.{some_number}
 use Rattle.bits.specs.Bits.{byte}
-use Rattle.drom.specs.Header.{length_in, is_tbt3, body_start, crc8_right, header_refusal}
+use Rattle.drom.specs.Header.{uuid_in, length_in, is_tbt3, body_start, crc8_right, header_refusal}
 use Rattle.drom.specs.HeaderValues.{values_in}
 use Rattle.drom.specs.Report.{refusal_of}
 
@@ -77,10 +77,15 @@ uuid_part : (drom : List ℕ) → take 8 (drop 1 (take 16 drom)) ≡ take 8 (dro
 uuid_part [] = refl
 uuid_part (x ∷ xs) = take-take 8 15 xs (omega arith)
 
--- a header's values are those of the first 16 bytes
-pub first_16 : (drom : List ℕ) → values_in (take 16 drom) ≡ values_in drom
-unfolding crc8_right
-first_16 drom = rw (uuid_part drom, at 0 (omega arith), at 1 (omega arith), at 2 (omega arith), at 3 (omega arith), at 4 (omega arith), at 5 (omega arith), at 6 (omega arith), at 7 (omega arith), at 8 (omega arith), at 9 (omega arith), at 10 (omega arith), at 11 (omega arith), at 12 (omega arith), at 13 (omega arith), at 14 (omega arith), at 15 (omega arith))
-  where
-    at : (i : ℕ) → i < 16 → byte i (take 16 drom) ≡ byte i drom
-    at i h = get_or-take 16 drom i 0 h
+module _ (drom : List ℕ) where
+  at : (i : ℕ) → i < 16 → byte i (take 16 drom) ≡ byte i drom
+  at i h = get_or-take 16 drom i 0 h
+
+  -- the UUID's number is that of the first 16 bytes, whatever the version
+  pub uuid_of : uuid_in (take 16 drom) ≡ uuid_in drom
+  uuid_of = rw (at 1 (omega arith), at 2 (omega arith), at 3 (omega arith), at 4 (omega arith), at 5 (omega arith), at 6 (omega arith), at 7 (omega arith), at 8 (omega arith))
+
+  -- a header's values are those of the first 16 bytes
+  pub first_16 : values_in (take 16 drom) ≡ values_in drom
+  unfolding crc8_right
+  first_16 = rw (uuid_part drom, at 0 (omega arith), at 1 (omega arith), at 2 (omega arith), at 3 (omega arith), at 4 (omega arith), at 5 (omega arith), at 6 (omega arith), at 7 (omega arith), at 8 (omega arith), at 9 (omega arith), at 10 (omega arith), at 11 (omega arith), at 12 (omega arith), at 13 (omega arith), at 14 (omega arith), at 15 (omega arith))

@@ -44,7 +44,7 @@ front_number kinds L bs r = go (eqb L 0) (ltb (length bs) L)
     go false false h = let y = refused_number (kinds (number_of (take L bs))) (take L bs) r h in omega arith
 
 -- so what is refused there is no entry
-no_entry : (kinds : ℕ → ℕ) (L : ℕ) (bs : List ℕ) (r : Refusal) → front_of kinds L bs ≡ Err r → is_entry (front_of kinds L bs) ≡ false
+pub no_entry : (kinds : ℕ → ℕ) (L : ℕ) (bs : List ℕ) (r : Refusal) → front_of kinds L bs ≡ Err r → is_entry (front_of kinds L bs) ≡ false
 no_entry kinds L bs r h = ap is_entry h ∙ ne_eqb (refusal_number r) 0 (λ z. omega (arith, front_number kinds L bs r h))
 
 -- as many turns as there are bytes, or more, make no difference

@@ -1,5 +1,6 @@
 // Parts of the caller's own bytes: the header, the body, the whole DROM, and the n-th accepted entry. The names are the Rust's,
-// where `Drom` has them; `head` is its `header`. Where there is no such part it is the empty one, as document 01 and the clauses have it.
+// where `Drom` has them; `head` is its `header`. Where there is no such part it is the empty one at the DROM's front, which document 01
+// asks for, and no bytes from elsewhere.
 ghost use Rattle.std.specs.Prelude.{◌≡◌, ◌<◌, ◌≤◌, IfSome, length, drop};
 ghost use Rattle.std.specs.Option.{unwrap_or};
 ghost use Rattle.entry.specs.Adapters.{kind_in};
@@ -17,7 +18,7 @@ pub fn head<'a>(drom: &'a [u8]) -> &'a [u8]
     if is_accepted(drom) {
         &drom[..body_start(drom)]
     } else {
-        &[]
+        &drom[..0]
     }
 }
 
@@ -27,7 +28,7 @@ pub fn body<'a>(drom: &'a [u8]) -> &'a [u8]
     if is_accepted(drom) {
         &drom[body_start(drom)..]
     } else {
-        &[]
+        &drom[..0]
     }
 }
 
@@ -35,15 +36,20 @@ pub fn body<'a>(drom: &'a [u8]) -> &'a [u8]
 pub fn bytes<'a>(drom: &'a [u8]) -> &'a [u8]
     ensures { result.now ≡ whole_part drom.now }
 {
-    if is_accepted(drom) { drom } else { &[] }
+    if is_accepted(drom) { drom } else { &drom[..0] }
 }
 
 // Where the entry at an offset ends, if one stands there.
+#[tactic(auto, using(record::proofs::Known::decode_one))]
 fn entry_end(list: &[u8], drom: &[u8], at: usize) -> Option<usize>
     requires { at < length drom.now }
     ensures { result ≡ end_at (kind_in list.now) drom.now at }
 {
     let bytes = entry_bytes(drom, at).ok()?;
+    // One byte is an entry by itself. A body may have thousands, and here they take no further call.
+    if bytes.len() == 1 {
+        return Some(at + 1);
+    }
     entry::decode(bytes, listed_kind(list, bytes)).ok()?;
     Some(at + bytes.len())
 }
@@ -92,7 +98,7 @@ pub fn nth_entry<'a>(list: &[u8], drom: &'a [u8], n: usize) -> &'a [u8]
     ensures { result.now ≡ entry_part list.now drom.now n }
 {
     let Some(at) = place_of(list, drom, n) else {
-        return &[];
+        return &drom[..0];
     };
     &drom[at..at + usize::from(drom[at])]
 }

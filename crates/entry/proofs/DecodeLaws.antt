@@ -23,9 +23,12 @@ use Rattle.entry.specs.declared.parse.DromEntry.{DromEntry}
 pub ok_err : {A : Type 0} {a : A} {r : Refusal} → ◌≡◌ {A = Result A Refusal} (Ok a) (Err r) → ⊥
 ok_err d = cc
 
--- two answers that are equal have equal entries
+-- two answers that are equal have equal entries, or refusals
 same_values_lem : {e f : DromEntry} → ◌≡◌ {A = Result DromEntry Refusal} (Ok e) (Ok f) → e ≡ f
 same_values_lem d = cc
+
+pub same_refusal : {A : Type 0} {r s : Refusal} → ◌≡◌ {A = Result A Refusal} (Err r) (Err s) → r ≡ s
+same_refusal d = cc
 
 -- ---- what comes of a row
 

@@ -3,13 +3,13 @@
 -- Assumes nothing.
 use mathlib.Core.Path.{◌≡◌, refl, sym, ap, subst, ◌∙◌}
 use mathlib.Core.Bool.{Bool, true, false, cond}
-use mathlib.Core.List.{List}
+use mathlib.Core.List.{List, [], ◌∷◌}
 use mathlib.Core.Logic.{◌⊎◌, inl, inr, ◌↔◌}
 use Prim.Native.Nat.{ℕ, suc, ◌≤◌, ◌<◌, ◌%◌}
 use native.Mathlib.Omega.{arith}
 use borrow.Author.Tests.{eq-eqb, ne_eqb}
 use lib.Dec.{eqb}
-use lib.ListN.{length, drop}
+use lib.ListN.{length, drop, get_or}
 use Rattle.util.specs.Utf8.{is_utf8}
 use Rattle.util.proofs.Rows.{split}
 use Rattle.util.proofs.Utf8Means.{utf8_means}
@@ -17,11 +17,11 @@ use Rattle.entry.specs.Names.{has_zero, before_zero}
 use Rattle.entry.specs.Rows.{Text, no_text, name, utf16_from, text_in, row_of}
 use Rattle.entry.specs.Decode.{values_of, name_of, too_short, no_zero, not_utf8, odd_utf16, name_refusal, utf16_refusal, text_refusal, row_entry, decode_of, decoded_number}
 use Rattle.entry.specs.Fit.{Name, TextFits, Fit}
-use Rattle.std.specs.Prelude.{Option, Some, None, Result, Ok, Err}
+use Rattle.std.specs.Prelude.{Option, Some, None, Result, Ok, Err, ⊤}
 use Rattle.entry.specs.declared.parse.DromEntry.{DromEntry}
 use Rattle.entry.specs.declared.refusal.Refusal.{Refusal}
 use Rattle.entry.specs.declared.refusal.Refusal.TheVariants.{TooFew, WrongLength, ShortTbt3, SmallBuffer, OddList, ZeroLength, PastEnd, TooShort, NoZero, NotUtf8, OddUtf16, Beyond, Missing, Outside}
-use Rattle.entry.specs.Refusals.{refusal_number}
+use Rattle.entry.specs.Refusals.{refusal_number, answer_number}
 use Rattle.entry.proofs.NameLaws.{before_free, zero_splits, joined_zero, joined_before}
 use Rattle.entry.proofs.DecodeLaws.{row_text, Comes, short, unwell, well, comes, decoded_values, ok_err}
 
@@ -172,6 +172,39 @@ some_number OddUtf16 = omega arith
 some_number Beyond = omega arith
 some_number Missing = omega arith
 some_number Outside = omega arith
+
+-- a number is one refusal's at most, so that what a call answers is known by its number
+by_number : ℕ → Refusal
+by_number n =
+    get_or (Outside ∷ TooFew ∷ WrongLength ∷ ShortTbt3 ∷ SmallBuffer ∷ OddList ∷ ZeroLength ∷ PastEnd ∷ TooShort ∷ NoZero ∷ NotUtf8 ∷ OddUtf16 ∷ Beyond ∷ Missing ∷ [])
+    n Outside
+
+by_own_number : (r : Refusal) → by_number (refusal_number r) ≡ r
+unfolding by_number
+by_own_number TooFew = refl
+by_own_number WrongLength = refl
+by_own_number ShortTbt3 = refl
+by_own_number SmallBuffer = refl
+by_own_number OddList = refl
+by_own_number ZeroLength = refl
+by_own_number PastEnd = refl
+by_own_number TooShort = refl
+by_own_number NoZero = refl
+by_own_number NotUtf8 = refl
+by_own_number OddUtf16 = refl
+by_own_number Beyond = refl
+by_own_number Missing = refl
+by_own_number Outside = refl
+
+pub same_number : (r s : Refusal) → refusal_number r ≡ refusal_number s → r ≡ s
+same_number r s e = sym (by_own_number r) ∙ ap by_number e ∙ by_own_number s
+
+-- and with it what answers a refusal or nothing
+pub same_answer : (a b : Result ⊤ Refusal) → answer_number a ≡ answer_number b → a ≡ b
+same_answer (Ok x) (Ok y) e = refl
+same_answer (Ok x) (Err s) e = absurd (omega (arith, some_number s))
+same_answer (Err r) (Ok y) e = absurd (omega (arith, some_number r))
+same_answer (Err r) (Err s) e = ap (λ (q : Refusal). Err q) (same_number r s e)
 
 -- the numbers of an entry's refusals are those of specs/Decode
 pub entry_numbers : (refusal_number TooShort ≡ too_short) × (refusal_number NoZero ≡ no_zero) × (refusal_number NotUtf8 ≡ not_utf8) × (refusal_number OddUtf16 ≡ odd_utf16)

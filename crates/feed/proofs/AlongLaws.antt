@@ -1,4 +1,4 @@
--- Whole entries of a piece, one after the other: what holds in the loop that takes them at once.
+-- Whole entries of a piece, one after the other: what holds in the loop that takes them at once. Then bytes in the middle of an entry.
 -- Assumes nothing.
 use Prim.Native.Nat.{ℕ, zero, suc, ◌+◌, ◌-◌, ◌*◌, ◌≤◌, ◌<◌}
 use mathlib.Core.Path.{◌≡◌, refl, sym, ap, subst, ◌∙◌}
@@ -9,7 +9,7 @@ use lib.ListN.{length, get_or, take, drop, length-append, length-drop}
 use lib.Seq.{sets, take_all, take-add, drop-cons, length-take-le, length-sets}
 use Rattle.bits.specs.Bits.{Bytes}
 use Rattle.bits.specs.Front.{onto, Put}
-use Rattle.bits.proofs.LawsFront.{put_once, puts_sets}
+use Rattle.bits.proofs.LawsFront.{fitted, put_once, puts_sets}
 use Rattle.std.specs.Prelude.{Result, Ok, Err}
 use Rattle.entry.specs.declared.parse.DromEntry.{DromEntry}
 use Rattle.entry.specs.declared.refusal.Refusal.{Refusal}
@@ -20,9 +20,10 @@ use Rattle.drom.specs.Header.{body_start}
 use Rattle.feed.specs.declared.feeding.Core.{Core}
 use Rattle.feed.specs.Run.{Run, run, step_of, steps}
 use Rattle.feed.specs.Loop.{Good, Through}
+use Rattle.feed.proofs.BoundsLaws.{start_small}
 use Rattle.feed.proofs.StepLaws.{steps_nil, steps_cons, steps_append}
 use Rattle.feed.proofs.EndLaws.{part_of, with_part, part_long, part_front}
-use Rattle.feed.proofs.EntryBytes.{placed, passes, Between, at_once}
+use Rattle.feed.proofs.EntryBytes.{placed, passes, holds, Between, at_once}
 use Rattle.feed.proofs.FeedLaws.{Held, held_turn}
 
 part_same : (b part : List ℕ) (w : ℕ) → w ≤ length b → length part ≡ length (part_of b w) → length (with_part b w part) ≡ length b
@@ -152,6 +153,28 @@ module _ (r₀ : Run) (xs : List ℕ) (r : Run) (i : ℕ) (a : Along r₀ xs r i
           long = size' ∙ a.long;
         },
       )
+
+-- ---- bytes in the middle of an entry
+
+-- k bytes of the piece went behind those that are pending, where `size` bytes can be, and the entry is not whole with them
+pub middle_through : (r : Run) (xs : List ℕ) (size k l n : ℕ) (part : List ℕ) → r.core.refusal ≡ 0 → 22 ≤ r.core.taken → 0 < r.core.fill → l ≡ get_or r.pending 0 0
+    → r.core.fill + k < l → k ≤ length xs → length r.pending ≡ size → l ≤ size → Put (take k xs) (take (size - r.core.fill) (drop r.core.fill r.pending)) part n
+    → Through r xs k (placed r (r.core.taken + k) (r.core.fill + k) (take r.core.fill r.pending ++ (part ++ drop (size - r.core.fill) (drop r.core.fill r.pending))))
+middle_through r xs size k l n part z t f e m w long s put =
+    let p : List ℕ = r.pending in
+    let i : ℕ = r.core.fill in
+    let ys : List ℕ = take k xs in
+    let here : length ys ≡ k = length-take-le k xs w in
+    let lent : Put ys (part_of p i) part n = subst (λ (j : ℕ). Put ys (take (j - i) (drop i p)) part n) (sym long) put in
+    let stored : with_part p i part ≡ sets p i ys =
+    ap (with_part p i) (fitted lent (omega (arith, here, part_long p i))).holds ∙ part_front p ys i (omega (arith, here))
+    in
+    record {
+      same = sym (holds r ys l z (omega arith) (omega (arith, start_small r.header)) f e (omega (arith, here))
+          ∙ ap (λ (j : ℕ). placed r (r.core.taken + j) (i + j) (sets p i ys)) here ∙ ap (placed r (r.core.taken + k) (i + k)) (sym stored)
+          ∙ ap (λ (j : ℕ). placed r (r.core.taken + k) (i + k) (take i p ++ (part ++ drop (j - i) (drop i p)))) long);
+      within = w;
+    }
 
 -- ---- the loop over a piece
 

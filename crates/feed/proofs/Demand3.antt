@@ -1,7 +1,8 @@
 -- Demand 3: "If the pieces join to the announced size, the final report and every byte of that buffer are demand 2's answer for the
 -- joined bytes" (`fed_as_whole`), for every list, announced size and buffer, and however the bytes are cut. After a refused opening a
 -- finish gives the report of every DROM of the size asked (`closed_as_whole`). "After each piece, the records are those of the entries
--- complete so far": proofs/Pieces.antt. No second state, number, report or buffer meets the promises of feeding (`open_one`, `feed_one`, `finish_one`).
+-- complete so far": proofs/Pieces.antt. No second state, number, report or buffer meets the promises of feeding (`open_one`, `feed_one`, `feed_in_place_one`,
+-- `feed_parts_one`, `finish_one`).
 -- Assumes nothing.
 use Prim.Native.Nat.{ℕ, ◌+◌, ◌%◌, ◌^◌, ◌≤◌, ◌<◌}
 use mathlib.Core.Path.{◌≡◌, refl, sym, ap, subst, ◌∙◌}
@@ -22,10 +23,15 @@ use Rattle.drom.specs.Header.{length_in, is_tbt3, open_tests, header_tests, head
 use Rattle.drom.specs.Walk.{Walked, stop}
 use Rattle.drom.specs.Report.{refusal_of, refused_report, walk_in, report_of, leaves_of}
 use Rattle.drom.proofs.ReportLaws.{report_walked, report_refused, leaves_walked, leaves_refused}
+use Rattle.std.specs.Prelude.{Result, ⊤}
+use Rattle.entry.specs.declared.refusal.Refusal.{Refusal}
+use Rattle.entry.specs.Refusals.{answer_number}
+use Rattle.entry.proofs.FitLaws.{same_answer}
+use Rattle.feed.specs.declared.feeding.Core.{Core}
 use Rattle.feed.specs.declared.feeding.State.{State}
 use Rattle.feed.specs.declared.feeding.Fed.{Fed}
 use Rattle.feed.specs.Bounds.{in_bounds}
-use Rattle.feed.specs.Feed.{fresh, open_of, Answer, answer, both, feed_of, told, finish_of}
+use Rattle.feed.specs.Feed.{fresh, open_of, Answer, answer, both, state_of, feed_of, told, finish_of}
 use Rattle.feed.specs.Prefix.{prefix_of}
 use Rattle.feed.specs.Pieces.{feed_many, Told}
 use Rattle.feed.specs.Pieces.Left.{opened}
@@ -186,6 +192,27 @@ open_one list size room = one_answer
 pub feed_one : (s : State) (piece before : List ℕ) {r t : Fed} {after other : List ℕ}
     → both r after ≡ feed_of s piece before → both t other ≡ feed_of s piece before → (r ≡ t) × (after ≡ other)
 feed_one s piece before p q = let e = one_answer p q in (ap (λ (a : Answer). a.fed) e, ap (λ (a : Answer). a.buffer) e)
+
+-- the same for a state that is lent: what it answers, a refusal or nothing, is known by the number
+pub feed_in_place_one : (s : State) (piece before : List ℕ) {x y : Result ⊤ Refusal} {t u : State} {after other : List ℕ}
+    → answer (answer_number x) t after ≡ feed_of s piece before → answer (answer_number y) u other ≡ feed_of s piece before
+    → (x ≡ y) × (t ≡ u) × (after ≡ other)
+feed_in_place_one s piece before {x} {y} p q =
+    let e = feed_one s piece before p q in
+    (same_answer x y (ap (λ (f : Fed). f.number) e.0), ap (λ (f : Fed). f.state) e.0, e.1)
+
+-- and for a state whose parts lie apart: its kinds are only read
+pub feed_parts_one : (kinds : List ℕ) (s : State) (piece before : List ℕ) {m n : ℕ} {c d : Core} {h i p q after other : List ℕ}
+    → answer m (state_of c h p kinds) after ≡ feed_of s piece before → answer n (state_of d i q kinds) other ≡ feed_of s piece before
+    → (m ≡ n) × (c ≡ d) × (h ≡ i) × (p ≡ q) × (after ≡ other)
+feed_parts_one kinds s piece before a b =
+    let e = feed_one s piece before a b in (
+      ap (λ (f : Fed). f.number) e.0,
+      ap (λ (f : Fed). f.state.core) e.0,
+      ap (λ (f : Fed). f.state.header) e.0,
+      ap (λ (f : Fed). f.state.pending) e.0,
+      e.1,
+    )
 
 pub finish_one : (s : State) {r t : Report} → r ≡ finish_of s → t ≡ finish_of s → r ≡ t
 finish_one s = one_answer

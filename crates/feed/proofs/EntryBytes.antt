@@ -69,7 +69,7 @@ passes r (x ∷ xs) h =
 
 -- ---- bytes of an entry that is not whole yet
 
-holds : (r : Run) (ys : List ℕ) (l : ℕ) → r.core.refusal ≡ 0 → 16 ≤ r.core.taken → body_start r.header ≤ r.core.taken → 0 < r.core.fill
+pub holds : (r : Run) (ys : List ℕ) (l : ℕ) → r.core.refusal ≡ 0 → 16 ≤ r.core.taken → body_start r.header ≤ r.core.taken → 0 < r.core.fill
     → l ≡ get_or r.pending 0 0 → r.core.fill + length ys < l
     → steps r ys ≡ placed r (r.core.taken + length ys) (r.core.fill + length ys) (sets r.pending r.core.fill ys)
 holds r [] l h u v f e k = steps_nil r ∙ placed_same r _ _ _ _ _ _ (omega arith) (omega arith) refl

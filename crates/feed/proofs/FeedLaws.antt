@@ -1,19 +1,22 @@
--- What holds in the loop over a piece, and the four answers of a feed.
+-- What holds in the loop over a piece, the four answers of a feed, and that none of them changes the kinds (`feed_kinds`).
 -- Assumes nothing.
 use Prim.Native.Nat.{ℕ, ◌+◌, ◌-◌, ◌≤◌, ◌<◌}
 use mathlib.Core.Path.{◌≡◌, refl, sym, subst, ◌∙◌}
 use mathlib.Core.List.{List}
-use mathlib.Core.Bool.{true, false}
+use mathlib.Core.Bool.{Bool, true, false, cond}
 use native.Mathlib.Omega.{arith}
 use native.Mathlib.Numerals.{add-one}
 use lib.ListN.{length, get_or, drop}
 use lib.Seq.{drop-cons, drop-length}
+use lib.Dec.{eqb}
 use borrow.Author.Tests.{lt-ltb, le-ltb}
+use Rattle.drom.specs.Numbers.{first_of}
 use Rattle.feed.specs.declared.feeding.State.{State}
 use Rattle.feed.specs.Run.{Run, step_of, steps}
 use Rattle.feed.specs.Loop.{Good}
 use Rattle.feed.specs.Bounds.{in_bounds}
-use Rattle.feed.specs.Feed.{run_in, state_after, register_after, answer, feed_of}
+use Rattle.feed.specs.Feed.{Answer, run_in, state_after, register_after, answer, feed_tests, feed_of}
+use Rattle.feed.proofs.MoveLaws.{steps_move}
 use Rattle.feed.proofs.StepLaws.{step_after}
 
 -- ---- the loop over a piece
@@ -71,3 +74,16 @@ module _ (s : State) (xs b : List ℕ) where
       → feed_of s xs b ≡ answer 0 (state_after (steps (run_in s b) xs) (register_after s.core.register s.core.taken xs)) (steps (run_in s b) xs).buffer
   unfolding feed_of
   feed_taken e h l = rw (e, le-ltb _ _ h, le-ltb _ _ l)
+
+  -- ---- the kinds stay
+
+  abbrev after : Answer
+  after = answer 0 (state_after (steps (run_in s b) xs) (register_after s.core.register s.core.taken xs)) (steps (run_in s b) xs).buffer
+
+  either_kinds : (t : Bool) (n : ℕ) → (cond t after (answer n s b)).fed.state.kinds ≡ s.kinds
+  either_kinds true n = (steps_move (run_in s b) xs).3
+  either_kinds false n = refl
+
+  pub feed_kinds : (feed_of s xs b).fed.state.kinds ≡ s.kinds
+  unfolding feed_of
+  feed_kinds = either_kinds (eqb (first_of (feed_tests s xs (length b))) 0) (first_of (feed_tests s xs (length b)))

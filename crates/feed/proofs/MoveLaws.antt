@@ -1,5 +1,5 @@
 -- What a byte changes and what it leaves, whatever the state: a piece moves the count of bytes by its length, and keeps the announced
--- size and the buffer's length (`steps_move`); and bytes never look at the register, so another register stays beside them
+-- size, the buffer's length and the kinds (`steps_move`); and bytes never look at the register, so another register stays beside them
 -- (`steps_beside`).
 -- Assumes nothing.
 use mathlib.Core.Path.{◌≡◌, refl, ap, ◌∙◌}
@@ -85,18 +85,18 @@ steps_beside r c (x ∷ xs) = ap (λ (s : Run). steps s xs) (step_beside r c x) 
 -- ---- what moves
 
 abbrev pub Moved : Run → ℕ → Run → Type 0
-Moved r n s = (s.core.taken ≡ r.core.taken + n) × (s.core.announced ≡ r.core.announced) × (length s.buffer ≡ length r.buffer)
+Moved r n s = (s.core.taken ≡ r.core.taken + n) × (s.core.announced ≡ r.core.announced) × (length s.buffer ≡ length r.buffer) × (s.kinds ≡ r.kinds)
 
 abbrev Kept : Run → Run → Type 0
-Kept r s = (s.core.taken ≡ r.core.taken) × (s.core.announced ≡ r.core.announced) × (length s.buffer ≡ length r.buffer)
+Kept r s = (s.core.taken ≡ r.core.taken) × (s.core.announced ≡ r.core.announced) × (length s.buffer ≡ length r.buffer) × (s.kinds ≡ r.kinds)
 
 either_kept : (r : Run) (t : Bool) (a b : Run) → Kept r a → Kept r b → Kept r (cond t a b)
 either_kept r true a b p q = p
 either_kept r false a b p q = q
 
 ended_by_keeps : (r : Run) (d : Result DromEntry Refusal) → Kept r (ended_by r d)
-ended_by_keeps r (Ok e) = (refl, refl, length-sets r.buffer r.core.written (record_of (pending_at r.core) (pending_entry r) e))
-ended_by_keeps r (Err n) = (refl, refl, refl)
+ended_by_keeps r (Ok e) = (refl, refl, length-sets r.buffer r.core.written (record_of (pending_at r.core) (pending_entry r) e), refl)
+ended_by_keeps r (Err n) = (refl, refl, refl, refl)
 
 ended_keeps : (r : Run) → Kept r (ended r)
 unfolding ended
@@ -105,13 +105,13 @@ ended_keeps r = ended_by_keeps r (decode_of (get_or r.kinds (number_of (pending_
 kept_keeps : (r : Run) (b : ℕ) → Kept r (kept r b)
 unfolding kept
 kept_keeps r b =
-    either_kept r (ltb (r.core.fill + 1) (get_or (set r.pending r.core.fill b) 0 0)) _ _ (refl, refl, refl)
+    either_kept r (ltb (r.core.fill + 1) (get_or (set r.pending r.core.fill b) 0 0)) _ _ (refl, refl, refl, refl)
     (ended_keeps (with_pending r r.core (set r.pending r.core.fill b)))
 
 begun_keeps : (r : Run) (at b : ℕ) → Kept r (begun r at b)
 unfolding begun
 begun_keeps r at b =
-    either_kept r (eqb b 0) _ _ (refl, refl, refl) (either_kept r (ltb (r.core.announced - at) b) _ _ (refl, refl, refl) (kept_keeps r b))
+    either_kept r (eqb b 0) _ _ (refl, refl, refl, refl) (either_kept r (ltb (r.core.announced - at) b) _ _ (refl, refl, refl, refl) (kept_keeps r b))
 
 headed_keeps : (r : Run) (at b : ℕ) → Kept r (headed r at b)
 unfolding headed judged
@@ -121,8 +121,8 @@ headed_keeps r at b = go (eqb at 15)
     h = set r.header at b
 
     go : (t : Bool) → Kept r (run (cond t (judged r.core h) r.core) h r.pending r.kinds r.buffer)
-    go true = (refl, refl, refl)
-    go false = (refl, refl, refl)
+    go true = (refl, refl, refl, refl)
+    go false = (refl, refl, refl, refl)
 
 pub step_moves : (r : Run) (b : ℕ) → Moved r 1 (step_of r b)
 unfolding step_of
@@ -130,14 +130,14 @@ step_moves r b =
     let n : Run = with_core r (counted r.core) in
     either_kept n (eqb r.core.refusal 0) _ _
     (either_kept n (ltb r.core.taken 16) _ _ (headed_keeps n r.core.taken b)
-    (either_kept n (ltb r.core.taken (body_start r.header)) _ _ (refl, refl, refl)
+    (either_kept n (ltb r.core.taken (body_start r.header)) _ _ (refl, refl, refl, refl)
     (either_kept n (eqb r.core.fill 0) _ _ (begun_keeps n r.core.taken b) (kept_keeps n b))))
-    (refl, refl, refl)
+    (refl, refl, refl, refl)
 
 pub steps_move : (r : Run) (xs : List ℕ) → Moved r (length xs) (steps r xs)
 unfolding steps
-steps_move r [] = (omega arith, refl, refl)
+steps_move r [] = (omega arith, refl, refl, refl)
 steps_move r (x ∷ xs) =
     let h = step_moves r x in
     let g = steps_move (step_of r x) xs in
-    (omega (arith, h.0, g.0), g.1 ∙ h.1, g.2 ∙ h.2)
+    (omega (arith, h.0, g.0), g.1 ∙ h.1, g.2 ∙ h.2, g.3 ∙ h.3)

@@ -3,6 +3,7 @@
 -- Assumes nothing.
 use Rattle.std.specs.Prelude.{◌≡◌, ℕ, ◌+◌, ◌-◌, ◌*◌, ◌^◌, ◌≤◌, ◌<◌, List, length, get_or, take}
 use Rattle.feed.specs.declared.feeding.Core.{Core}
+use Rattle.feed.specs.declared.feeding.State.{State}
 use Rattle.feed.specs.Run.{Run, steps}
 
 -- while nothing is refused
@@ -30,6 +31,13 @@ pub record Ending (r : Run) : Type 0 where
   pub room : r.core.written + 4 * (r.core.fill + 1) ≤ length r.buffer
   pub few : r.core.count < 20000
   pub small : r.core.written < 20000
+
+-- part of an entry is pending, and more than one byte of it is to come
+pub record Amid (s : State) : Type 0 where
+  pub going : s.core.refusal ≡ 0
+  pub late : 22 ≤ s.core.taken
+  pub some : 0 < s.core.fill
+  pub more : s.core.fill + 1 < get_or s.pending 0 0
 
 -- k bytes at the front of a piece lead from a run to another
 pub record Through (r : Run) (piece : List ℕ) (k : ℕ) (r' : Run) : Type 0 where

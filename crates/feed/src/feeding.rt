@@ -1,12 +1,12 @@
 // A DROM that comes in pieces, cut anywhere: a state by value that takes the bytes in, and writes each record as its entry is whole.
-ghost use Rattle.std.specs.Prelude.{◌≡◌, true, ◌+◌, ◌-◌, ◌%◌, ◌≤◌, ◌<◌, length, get_or, replicate, IsTrue};
+ghost use Rattle.std.specs.Prelude.{◌≡◌, true, ◌+◌, ◌-◌, ◌%◌, ◌≤◌, ◌<◌, length, get_or, replicate, IsTrue, List, ℕ};
 ghost use Rattle.bits.specs.Front.{Put};
 ghost use Rattle.entry.specs.Decode.{number_of};
 ghost use Rattle.entry.specs.Refusals.{refusal_number, answer_number};
 ghost use Rattle.feed.specs.Kinds.{table_of};
 ghost use Rattle.feed.specs.Run.{refused, ended, kept, step_of, steps};
 ghost use Rattle.feed.specs.Bounds.{in_bounds};
-ghost use Rattle.feed.specs.Loop.{Good, Ending, Through};
+ghost use Rattle.feed.specs.Loop.{Good, Ending, Amid, Through};
 ghost use Rattle.feed.specs.Feed.{fresh, open_of, register_after, state_of, run_in, state_after, both, answer, feed_of, told, finish_of};
 
 use drom::Report;
@@ -190,8 +190,23 @@ impl State {
         i
     }
 
-    // The loop over a piece, by a cursor: a turn moves over a byte, whole entries or all that is left. The entries that the piece has
-    // whole, and a byte in the middle of an entry, take no step.
+    // The bytes in the middle of an entry that a piece has at its front: how many they are. The entry's last makes it whole, and is left.
+    // They are taken at once: with a turn of the loop for each of them, long entries in small pieces take half as long again.
+    fn keep_middle(&mut self, piece: &[u8]) -> usize
+        requires { Amid self.old × (length piece.now ≤ self.old.core.announced - self.old.core.taken) }
+        ensures moves { 0 < length piece.now → 0 < result }
+        ensures through { (buffer : List ℕ) → Through (run_in self.old buffer) piece.now result (run_in self.new buffer) }
+    {
+        let fill = self.core.fill;
+        let n = piece.len().min(usize::from(self.pending[0]) - (fill + 1));
+        bits::put_all(&piece[..n], &mut self.pending[fill..]);
+        self.core.taken += n;
+        self.core.fill = fill + n;
+        n
+    }
+
+    // The loop over a piece, by a cursor: a turn moves over a byte, several of an entry, whole entries or all that is left. The entries
+    // that the piece has whole, and the bytes in the middle of an entry, take no step.
     fn take_in(&mut self, piece: &[u8], records: &mut [u8])
         requires { (in_bounds self.old.core self.old.header self.old.pending ≡ true) × (16368 ≤ length records.old) × (length piece.now ≤ self.old.core.announced - self.old.core.taken) }
         ensures state { self.new ≡ state_after (steps (run_in self.old records.old) piece.now) (register_after self.old.core.register self.old.core.taken piece.now) }
@@ -217,10 +232,7 @@ impl State {
                 }
             } else if 21 < at && fill + 1 < usize::from(self.pending[0]) {
                 // Where something is pending the header is in, and a body starts at 22 or before.
-                self.pending[fill] = piece[i];
-                self.core.taken = at + 1;
-                self.core.fill = fill + 1;
-                i += 1;
+                i += self.keep_middle(&piece[i..]);
                 continue;
             }
             self.step(piece[i], records);
@@ -253,6 +265,39 @@ pub fn feed(mut state: State, piece: &[u8], records: &mut [u8]) -> Fed
 {
     let number = entry::answer_number(feed_in_place(&mut state, piece, records));
     Fed { number, state }
+}
+
+// What `feed_parts` answers: a feed's number, and the numbers of the state that it leaves.
+#[derive(Clone, Copy, Debug, PartialEq, Eq)]
+pub struct FedCore {
+    pub number: u8,
+    pub core: Core,
+}
+
+// The same for a state whose parts lie apart: its kinds are only read, so that several feedings may share them.
+pub fn feed_parts(
+    core: Core,
+    header: &mut [u8; 16],
+    pending: &mut [u8; 255],
+    kinds: &[u8; 64],
+    piece: &[u8],
+    records: &mut [u8],
+) -> FedCore
+    ensures { answer result.number (state_of result.core header.new pending.new kinds.now) records.new ≡ feed_of (state_of core header.old pending.old kinds.now) piece.now records.old }
+{
+    let mut state = State {
+        core,
+        header: *header,
+        pending: *pending,
+        kinds: *kinds,
+    };
+    let number = entry::answer_number(feed_in_place(&mut state, piece, records));
+    *header = state.header;
+    *pending = state.pending;
+    FedCore {
+        number,
+        core: state.core,
+    }
 }
 
 pub fn record_count(state: State) -> usize

@@ -5,5 +5,6 @@ mod bounds;
 pub mod feeding;
 
 pub use feeding::{
-    Core, Fed, State, feed, feed_in_place, finish, open, record_bytes, record_count,
+    Core, Fed, FedCore, State, feed, feed_in_place, feed_parts, finish, open, record_bytes,
+    record_count,
 };

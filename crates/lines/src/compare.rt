@@ -1,5 +1,6 @@
 // The lines of a text compared with what they should be, and how many were right.
 ghost use Rattle.std.specs.Prelude.{◌≡◌, ◌∷◌, [], ◌++◌, false, codes, IfOk, IfSome, OnOk};
+ghost use Rattle.std.specs.Fmt.{decimal};
 ghost use Rattle.std.specs.Io.KnownBytes.{Appends};
 
 use super::input::read_text;
@@ -7,6 +8,7 @@ use super::words::is_comment;
 use std::fmt::Display;
 use std::io;
 use std::io::{Read, Write};
+use streams::print_decimal;
 
 // How many lines were compared, and how many of these were wrong.
 #[derive(Clone, Copy, Default)]
@@ -35,6 +37,15 @@ pub fn wrong<W: Write, D: Display + Drop>(out: &mut W, line: &[u8], found: D) ->
     Ok(false)
 }
 
+// Writes a line that cannot be read, and says that it is wrong.
+pub fn malformed<W: Write>(out: &mut W, line: &[u8]) -> io::Result<bool>
+    ensures answer { IfOk result (λ right. right ≡ false) }
+    ensures line { OnOk result (Appends (W.contents out.old) (W.contents out.new) (line.now ++ codes " -> malformed\n")) }
+{
+    out.write_all(line)?;
+    out.write_all(b" -> malformed\n").map(|()| false)
+}
+
 fn compare_lines<W: Write, F: FnMut(&mut W, &[u8]) -> io::Result<bool>>(
     out: &mut W,
     text: &[u8],
@@ -52,6 +63,15 @@ fn compare_lines<W: Write, F: FnMut(&mut W, &[u8]) -> io::Result<bool>>(
     Ok(tally)
 }
 
+// Writes how many lines there were, and how many were wrong.
+fn print_tally<W: Write>(out: &mut W, tally: Tally) -> io::Result<()>
+    ensures { OnOk result (Appends (W.contents out.old) (W.contents out.new)
+        (decimal tally.compared ++ (codes " compared, " ++ (decimal tally.wrong ++ codes " wrong\n")))) }
+{
+    print_decimal(out, tally.compared)?;
+    write!(out, " compared, {} wrong\n", tally.wrong)
+}
+
 // Reads lines, of which `is_right` writes those that are wrong, and then writes how many there were and how many were wrong.
 // The room is the memory for the text, and `what` names the lines. No clause says what was written: `is_right` may do what it
 // likes with the output, so that even known bytes need not be known behind it.
@@ -66,5 +86,5 @@ pub fn compare_input<R: Read, W: Write, F: FnMut(&mut W, &[u8]) -> io::Result<bo
 {
     let text = read_text(input, out, what, room)?;
     let tally = compare_lines(out, text, is_right)?;
-    writeln!(out, "{} compared, {} wrong", tally.compared, tally.wrong)
+    print_tally(out, tally)
 }

@@ -1,6 +1,6 @@
 // An answer as text, in memory of a fixed size.
-ghost use Rattle.std.specs.Prelude.{◌≡◌, ◌≤◌, ℕ, List, [], ◌++◌, length, take, Some};
-ghost use Rattle.std.specs.Fmt.{WritesOnOk};
+ghost use Rattle.std.specs.Prelude.{◌≡◌, ◌≤◌, ◌<◌, ℕ, List, [], ◌++◌, length, take, false, Some};
+ghost use Rattle.std.specs.Fmt.{digit_glyph, WritesOnOk};
 ghost use Rattle.std.specs.List.{flat_map};
 ghost use Rattle.lines.specs.Hex.{hex_pair, hex_text};
 
@@ -44,7 +44,10 @@ impl<const N: usize> Text<N> {
     // Adds what a value displays. Nothing can fail, since a text that does not fit is cut. No clause says which text stands
     // there, since a value may end in an error, and `Display` promises nothing of what it wrote before.
     pub fn put<D: fmt::Display + Drop>(&mut self, value: D) {
-        let _ = self.write(value);
+        // Nothing more stands in a text that is full.
+        if self.len < N {
+            let _ = self.write(value);
+        }
     }
 }
 
@@ -90,12 +93,39 @@ impl fmt::Display for Hex<'_> {
     }
 }
 
-// Two digits for each byte.
+// How many bytes are written at a time.
+const CHUNK: usize = 64;
+
+// The digit of a number below 16.
+fn glyph(n: u8) -> u8
+    requires { n < 16 }
+    ensures { result ≡ digit_glyph false n }
+{
+    if n < 10 { b'0' + n } else { b'a' + (n - 10) }
+}
+
+// Two digits for each byte of a chunk, at the front of the room.
+fn pairs<'a>(chunk: &[u8], room: &'a mut [u8; 2 * CHUNK]) -> &'a [u8]
+    requires { length chunk.now ≤ 64 }
+    ensures { result.now ≡ flat_map hex_pair chunk.now }
+{
+    for (i, b) in chunk.iter().enumerate() {
+        room[2 * i] = glyph(*b / 16);
+        room[2 * i + 1] = glyph(*b % 16);
+    }
+    &room[..2 * chunk.len()]
+}
+
+// Two digits for each byte. A chunk is written at once, since the calls cost more than the digits.
 fn write_pairs<W: fmt::Write>(bytes: &[u8], f: &mut fmt::Formatter<W>) -> fmt::Result
     ensures { WritesOnOk W.write_str_gives f.old result (flat_map hex_pair bytes.now) f.new }
 {
-    for b in bytes {
-        write!(f, "{b:02x}")?;
+    let mut room = [0; 2 * CHUNK];
+    for chunk in bytes.chunks(CHUNK) {
+        let Ok(text) = str::from_utf8(pairs(chunk, &mut room)) else {
+            return Err(fmt::Error);
+        };
+        f.write_str(text)?;
     }
     Ok(())
 }

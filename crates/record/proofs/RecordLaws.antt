@@ -93,9 +93,9 @@ product_bytes a b v p c d t r ha hb hv hp hc hd ht hr =
 pub wide_bytes : (x : ℕ) (fs : List Field) → x < 65536 → pack (x ∶ 16 ∷ fs) ≡ (x / 256) ∷ (x % 256) ∷ pack fs
 wide_bytes x fs h = pack_run _ ∙ cons (omega arith) (cons (omega arith) (sym (pack_run fs)))
 
-pub dptx_bytes : (a m n o u : ℕ) → m ≤ 1
-    → pack (a ∶ 5 ∷ m ∶ 1 ∷ zz ∷ n ∶ 4 ∷ o ∶ 3 ∷ z ∷ zzz ∷ u ∶ 5 ∷ []) ≡ (a % 32 * 8 + m * 4) ∷ (n % 16 * 16 + o % 8 * 2) ∷ u % 32 ∷ []
-dptx_bytes a m n o u h = pack_run _ ∙ cons (omega arith) (cons (omega arith) (cons (omega arith) refl))
+pub dptx_bytes : (a m n o u : ℕ) (fs : List Field) → m ≤ 1
+    → pack (a ∶ 5 ∷ m ∶ 1 ∷ zz ∷ n ∶ 4 ∷ o ∶ 3 ∷ z ∷ zzz ∷ u ∶ 5 ∷ fs) ≡ (a % 32 * 8 + m * 4) ∷ (n % 16 * 16 + o % 8 * 2) ∷ u % 32 ∷ pack fs
+dptx_bytes a m n o u fs h = pack_run _ ∙ cons (omega arith) (cons (omega arith) (cons (omega arith) (sym (pack_run fs))))
 
 pub link_bytes : (n : ℕ) → pack (zzz ∷ n ∶ 5 ∷ []) ≡ n % 32 ∷ []
 link_bytes n = pack_run _ ∙ cons (omega arith) refl
@@ -109,13 +109,13 @@ weigh2 p q = omega arith
 weigh4 : {a b c d x y z t : ℕ} → a ≡ x → b ≡ y → c ≡ z → d ≡ t → (((0 * 2 + a) * 4 + b) * 2 + c) * 16 + d ≡ x * 128 + y * 32 + z * 16 + t
 weigh4 p q r s = omega arith
 
-pub map_bytes : (m0 m1 m2 : ℕ) → m1 < 256 → m2 < 256
-    → pack (map_fields (m0 ∷ m1 ∷ m2 ∷ []))
-    ≡ (m0 % 16 * 16 + m1 % 32 / 2) ∷ (m1 % 2 * 128 + m1 / 32 % 4 * 32 + m1 / 128 * 16 + m2 % 64 / 4) ∷ (m2 % 4 * 64 + m2 / 128 * 32) ∷ []
+pub map_bytes : (m0 m1 m2 : ℕ) (ms : List ℕ) → m1 < 256 → m2 < 256
+    → pack (map_fields (m0 ∷ m1 ∷ m2 ∷ ms))
+    ≡ (m0 % 16 * 16 + m1 % 32 / 2) ∷ (m1 % 2 * 128 + m1 / 32 % 4 * 32 + m1 / 128 * 16 + m2 % 64 / 4) ∷ (m2 % 4 * 64 + m2 / 128 * 32) ∷ pack (map_fields ms)
 unfolding map_fields
-map_bytes m0 m1 m2 h1 h2 =
+map_bytes m0 m1 m2 ms h1 h2 =
     pack_run _
-    ∙ cons (omega arith) (cons (weigh4 (omega arith) (omega arith) (omega arith) (omega arith)) (cons (weigh2 (omega arith) (omega arith)) refl))
+    ∙ cons (omega arith) (cons (weigh4 (omega arith) (omega arith) (omega arith) (omega arith)) (cons (weigh2 (omega arith) (omega arith)) (sym (pack_run _))))
 
 pub rank_bytes : (b : ℕ) (bs : List ℕ) → b < 256 → pack (rank_fields (b ∷ bs)) ≡ (b % 32 * 8 + b / 32) ∷ pack (rank_fields bs)
 unfolding rank_fields

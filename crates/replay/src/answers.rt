@@ -1,4 +1,5 @@
-// What the library answers to a case, as text. There is no answer to a case that cannot be read.
+// What the library answers to a case, as text, which is put into an answer that is lent. There is none to a case that cannot
+// be read.
 use super::feeding::answer_feed;
 use super::reports::{Fields, LENT, left};
 use drom::Report;
@@ -21,7 +22,8 @@ pub(crate) type Answer = Text<ANSWER>;
 fn answer_read<F: FnOnce(&[u8], &[u8], &mut [u8]) -> Option<Report>>(
     case: &[u8],
     read: F,
-) -> Option<Answer>
+    answer: &mut Answer,
+) -> Option<()>
     requires { F.IsAlwaysCallable read }
 {
     let mut list = [0; LIST];
@@ -31,9 +33,8 @@ fn answer_read<F: FnOnce(&[u8], &[u8], &mut [u8]) -> Option<Report>>(
     let drom = unhex(word(case, 2), &mut drom)?;
     let buffer = lent.get_mut(..number(word(case, 3))?)?;
     let report = read(list, drom, buffer)?;
-    let mut answer = Answer::new();
     answer.put(format_args!("{} {}", Fields(report), left(buffer)));
-    Some(answer)
+    Some(())
 }
 
 // A list of odd length is no list of structs.
@@ -45,8 +46,7 @@ fn read_structs(list: &[u8], drom: &[u8], buffer: &mut [u8]) -> Option<Report> {
 }
 
 // A part of a DROM, as the place where it is expected if those are its bytes, and else as its bytes.
-fn part_text(part: &[u8], drom: &[u8], expected: &[u8]) -> Answer {
-    let mut answer = Answer::new();
+fn put_part(part: &[u8], drom: &[u8], expected: &[u8], answer: &mut Answer) {
     match number(word(expected, 0)) {
         _ if part.is_empty() => answer.put("0 0"),
         Some(from) if from <= drom.len() && drom[from..].starts_with(part) => {
@@ -54,19 +54,19 @@ fn part_text(part: &[u8], drom: &[u8], expected: &[u8]) -> Answer {
         }
         _ => answer.put(Hex(part)),
     }
-    answer
 }
 
-fn answer_entry(case: &[u8], expected: &[u8]) -> Option<Answer> {
+fn answer_entry(case: &[u8], expected: &[u8], answer: &mut Answer) -> Option<()> {
     let mut list = [0; LIST];
     let mut drom = [0; DROM];
     let list = unhex(word(case, 1), &mut list)?;
     let drom = unhex(word(case, 2), &mut drom)?;
     let entry = drom::nth_entry(list, drom, number(word(case, 3))?);
-    Some(part_text(entry, drom, expected))
+    put_part(entry, drom, expected, answer);
+    Some(())
 }
 
-fn answer_part(case: &[u8], expected: &[u8]) -> Option<Answer> {
+fn answer_part(case: &[u8], expected: &[u8], answer: &mut Answer) -> Option<()> {
     let mut drom = [0; DROM];
     let drom = unhex(word(case, 2), &mut drom)?;
     let part = match word(case, 1) {
@@ -75,19 +75,22 @@ fn answer_part(case: &[u8], expected: &[u8]) -> Option<Answer> {
         b"whole" => drom::bytes(drom),
         _ => return None,
     };
-    Some(part_text(part, drom, expected))
+    put_part(part, drom, expected, answer);
+    Some(())
 }
 
 // The answer to a case. A part's place is looked for where the expected answer has it.
-pub(crate) fn answer(case: &[u8], expected: &[u8]) -> Option<Answer> {
+pub(crate) fn answer(case: &[u8], expected: &[u8], answer: &mut Answer) -> Option<()> {
     match word(case, 0) {
-        b"read" => answer_read(case, |list, drom, buffer| {
-            Some(drom::read(list, drom, buffer))
-        }),
-        b"structs" => answer_read(case, read_structs),
-        b"feed" => answer_feed(case),
-        b"part" => answer_part(case, expected),
-        b"entry" => answer_entry(case, expected),
+        b"read" => answer_read(
+            case,
+            |list, drom, buffer| Some(drom::read(list, drom, buffer)),
+            answer,
+        ),
+        b"structs" => answer_read(case, read_structs, answer),
+        b"feed" => answer_feed(case, answer),
+        b"part" => answer_part(case, expected, answer),
+        b"entry" => answer_entry(case, expected, answer),
         _ => None,
     }
 }

@@ -11,55 +11,64 @@ struct Turn {
     lent: usize,
 }
 
-fn fed(turn: Turn, word: &[u8], records: &mut [u8], answer: &mut Answer) -> Option<Turn> {
-    let mut piece = [0; DROM];
-    let piece = unhex(word, &mut piece)?;
+// Feeds the piece that a word stands for. The room is for its bytes: all steps share it, so that it is not made anew for each.
+fn fed(
+    turn: &mut Turn,
+    word: &[u8],
+    room: &mut [u8],
+    records: &mut [u8],
+    answer: &mut Answer,
+) -> Option<()> {
+    let piece = unhex(word, room)?;
     let fed = feed::feed(turn.state, piece, records.get_mut(..turn.lent)?);
-    let state = fed.state;
-    let count = feed::record_count(state);
-    let bytes = feed::record_bytes(state);
+    turn.state = fed.state;
+    let count = feed::record_count(fed.state);
+    let bytes = feed::record_bytes(fed.state);
     answer.put(format_args!("fed {} {count} {bytes}; ", fed.number));
-    Some(Turn { state, ..turn })
+    Some(())
 }
 
-// What follows a step, whose answer is added. There is nothing where the step cannot be read. All of the buffer is lent where
-// a size is larger.
-fn stepped(turn: Turn, step: &[u8], records: &mut [u8], answer: &mut Answer) -> Option<Turn> {
-    match step {
+// Takes a step, whose answer is added. There is none where the step cannot be read. All of the buffer is lent where a size is
+// larger.
+fn step(
+    turn: &mut Turn,
+    word: &[u8],
+    room: &mut [u8],
+    records: &mut [u8],
+    answer: &mut Answer,
+) -> Option<()> {
+    match word {
         b"?" => {
             let report = feed::finish(turn.state);
             answer.put(format_args!("finish {}; ", Fields(report)));
-            Some(turn)
         }
-        [b'@', size @ ..] => Some(Turn {
-            lent: number(size)?.min(records.len()),
-            ..turn
-        }),
-        _ => fed(turn, step, records, answer),
+        [b'@', size @ ..] => turn.lent = number(size)?.min(records.len()),
+        _ => fed(turn, word, room, records, answer)?,
     }
+    Some(())
 }
 
 // The answer to the steps, which begin at the fifth word, over the buffer that is lent.
-fn answer_steps(case: &[u8], opened: State, records: &mut [u8]) -> Option<Answer> {
-    let mut answer = Answer::new();
+fn answer_steps(case: &[u8], opened: State, records: &mut [u8], answer: &mut Answer) -> Option<()> {
+    let mut room = [0; DROM];
     let mut turn = Turn {
         state: opened,
         lent: records.len(),
     };
-    for step in case.split_inclusive(|b| *b == b' ').skip(4) {
-        let step = step.strip_suffix(b" ").unwrap_or(step);
-        turn = stepped(turn, step, records, &mut answer)?;
+    for word in case.split_inclusive(|b| *b == b' ').skip(4) {
+        let word = word.strip_suffix(b" ").unwrap_or(word);
+        step(&mut turn, word, &mut room, records, answer)?;
     }
     answer.put(format_args!("buffer {}", left(records)));
-    Some(answer)
+    Some(())
 }
 
-pub(crate) fn answer_feed(case: &[u8]) -> Option<Answer> {
+pub(crate) fn answer_feed(case: &[u8], answer: &mut Answer) -> Option<()> {
     let mut list = [0; LIST];
     let mut lent = [LENT; ROOM];
     let list = unhex(word(case, 1), &mut list)?;
     let announced = large_number(word(case, 2))?;
     let records = lent.get_mut(..number(word(case, 3))?)?;
     let opened = feed::open(list, announced, records);
-    answer_steps(case, opened, records)
+    answer_steps(case, opened, records, answer)
 }

@@ -11,8 +11,8 @@ mod answers;
 mod feeding;
 mod reports;
 
-use answers::answer;
-use lines::compare::wrong;
+use answers::{Answer, answer};
+use lines::compare::{malformed, wrong};
 use std::io;
 use std::io::{Read, Write};
 
@@ -28,15 +28,16 @@ fn case_and_answer(line: &[u8]) -> Option<(&[u8], &[u8])> {
 
 fn is_right<W: Write>(out: &mut W, line: &[u8]) -> io::Result<bool> {
     let Some((case, expected)) = case_and_answer(line) else {
-        return wrong(out, line, "malformed");
+        return malformed(out, line);
     };
-    let Some(computed) = answer(case, expected) else {
-        return wrong(out, line, "malformed");
-    };
+    let mut computed = Answer::new();
+    if answer(case, expected, &mut computed).is_none() {
+        return malformed(out, line);
+    }
     if computed.as_slice() == expected {
         return Ok(true);
     }
-    wrong(out, line, computed)
+    wrong(out, line, &computed)
 }
 
 // Reads the cases, writes each line whose answer is another, and then how many lines there were and how many were wrong.

@@ -4,6 +4,7 @@ use Rattle.std.proofs.Common.{◌≡◌, ℕ, suc, ◌+◌, ◌<◌, ◌≤◌, 
 use borrow.Author.Tests.{lt-leb}
 use Rattle.util.specs.Utf8.{utf8_1, utf8_2, utf8_3, utf8_4, is_utf8}
 use Rattle.std.proofs.lemmas.Bool.{false_from_ne_true}
+use Rattle.util.specs.Chars.{Two, Three, Four}
 use Rattle.util.proofs.Rows.{two_means, three_means, four_means, no_two, no_three}
 
 pub ascii : (a : ℕ) → a < 0x80 → utf8_1 a ≡ true
@@ -59,23 +60,6 @@ module _ (a b : ℕ) (not1 : utf8_1 a ≡ false) where
 
 -- ---- the same at the front of a list, by bounds on its bytes
 
--- a character of two, of three and of four bytes: the first byte's range, the tails', and what some first bytes ask of the second
-abbrev pub Two : List ℕ → Type 0
-Two bs = (1 < length bs) × (0xC2 ≤ get_or bs 0 0) × (get_or bs 0 0 ≤ 0xDF) × (0x80 ≤ get_or bs 1 0) × (get_or bs 1 0 ≤ 0xBF)
-
-abbrev pub Three : List ℕ → Type 0
-Three bs =
-    (2 < length bs) × (0xE0 ≤ get_or bs 0 0) × (get_or bs 0 0 ≤ 0xEF)
-    × (0x80 ≤ get_or bs 1 0) × (get_or bs 1 0 ≤ 0xBF) × (0x80 ≤ get_or bs 2 0) × (get_or bs 2 0 ≤ 0xBF)
-    × (get_or bs 0 0 ≡ 0xE0 → 0xA0 ≤ get_or bs 1 0) × (get_or bs 0 0 ≡ 0xED → get_or bs 1 0 ≤ 0x9F)
-
-abbrev pub Four : List ℕ → Type 0
-Four bs =
-    (3 < length bs) × (0xF0 ≤ get_or bs 0 0) × (get_or bs 0 0 ≤ 0xF4)
-    × (0x80 ≤ get_or bs 1 0) × (get_or bs 1 0 ≤ 0xBF) × (0x80 ≤ get_or bs 2 0) × (get_or bs 2 0 ≤ 0xBF)
-    × (0x80 ≤ get_or bs 3 0) × (get_or bs 3 0 ≤ 0xBF)
-    × (get_or bs 0 0 ≡ 0xF0 → 0x90 ≤ get_or bs 1 0) × (get_or bs 0 0 ≡ 0xF4 → get_or bs 1 0 ≤ 0x8F)
-
 pub char1 : (bs : List ℕ) → 0 < length bs → get_or bs 0 0 < 0x80 → is_utf8 bs ≡ is_utf8 (drop 1 bs)
 char1 [] l h = absurd (omega arith)
 char1 (a ∷ bs) l h = ok1 a bs (ascii a h)
@@ -119,7 +103,7 @@ no_char (a ∷ b ∷ c ∷ d ∷ bs) l h two three four =
     bad4 a b (not_ascii a h) c (not_two a b (c ∷ d ∷ bs) two) d (not_three a b (d ∷ bs) c three) bs (not_four a b bs c d four)
 
 -- for `char_len`
-pub ruleset chars = (char2, char3, char4, no_char)
+pub ruleset chars = (char1, char2, char3, char4, no_char)
 
--- for `is_utf8`, where it passes over an ASCII byte
-pub ruleset ascii_passed = (char1, take_all, length-drop)
+-- for `is_utf8`, where it passes over a character
+pub ruleset passed = (take_all, length-drop)

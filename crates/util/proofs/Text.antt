@@ -53,6 +53,11 @@ last_alone u = go (range 0xD800 0xDBFF u)
     go true = refl
     go false = refl
 
+-- nor does a unit that is no high surrogate begin a pair
+no_high : (u v : ℕ) → range 0xD800 0xDBFF u ≡ false → is_pair u v ≡ false
+unfolding is_pair
+no_high u v h = rw h
+
 -- ---- a step
 
 module _ (bs : List ℕ) (i u : ℕ) (here : StartsWith bs i u) where
@@ -80,6 +85,10 @@ module _ (bs : List ℕ) (i u : ℕ) (here : StartsWith bs i u) where
 
   pub shows_alone : (v : ℕ) → StartsWith bs (i + 2) v → is_pair u v ≡ false → (b : Option ℕ) → shown b ≡ kept (alone u) → Shows bs i b (i + 2)
   shows_alone v after h = alone_shows (ap (λ (us : List ℕ). is_pair u (get_or us 0 0)) after.first ∙ h)
+
+  -- a unit that begins no pair
+  pub shows_other : range 0xD800 0xDBFF u ≡ false → (b : Option ℕ) → shown b ≡ kept (alone u) → Shows bs i b (i + 2)
+  shows_other h = alone_shows (no_high u (get_or (units (drop (i + 2) bs)) 0 0) h)
 
   pub shows_last : length bs ≤ i + 2 + 1 → (b : Option ℕ) → shown b ≡ kept (alone u) → Shows bs i b (i + 2)
   shows_last end = alone_shows (ap (λ (us : List ℕ). is_pair u (get_or us 0 0)) (units_none bs (i + 2) end) ∙ last_alone u)
@@ -118,4 +127,4 @@ writing_end bs out₀ out i n fits g end = (count, sym (take-append-drop n out) 
     count = counting_end bs i n g.counts end
 
 -- for `next_shown`
-pub ruleset steps = (shows_pair, shows_alone, shows_last)
+pub ruleset steps = (shows_pair, shows_alone, shows_other, shows_last)

@@ -1,6 +1,7 @@
 // The text of little-endian UTF-16 units, in the characters that a sheet shows.
 ghost use Rattle.std.specs.Prelude.{◌≡◌, ◌+◌, ◌/◌, ◌≤◌, MatchOption, length};
 ghost use Rattle.bits.specs.Front.{onto};
+ghost use Rattle.util.specs.Range.{range};
 ghost use Rattle.util.specs.Utf16.{is_pair, alone, kept, utf16_text, utf16_answer, utf16_leaves};
 ghost use Rattle.util.specs.Shown.{shown, StartsWith, Shows};
 
@@ -28,6 +29,14 @@ fn is_pair(u: u16, v: u16) -> bool
     matches!((u, v), (0xd800..=0xdbff, 0xdc00..=0xdfff))
 }
 
+// A pair begins with such a unit.
+#[tactic(auto, using(std::proofs::lemmas::Bool::Decides::nat_tests), unfolding(crate::specs::Range::range))]
+fn is_high(u: u16) -> bool
+    ensures { result ≡ range 0xD800 0xDBFF u }
+{
+    matches!(u, 0xd800..=0xdbff)
+}
+
 // What is kept of a unit that is no part of a pair.
 #[tactic(auto, using(std::proofs::lemmas::Bool::Decides::nat_tests), unfolding(crate::specs::Utf16::kept, crate::specs::Utf16::alone))]
 fn kept_alone(u: u16) -> Option<u8>
@@ -47,19 +56,22 @@ struct Step {
     next: usize,
 }
 
-// The step of the unit at i, or None where fewer than two bytes are left.
+// The step of the unit at i, or None where fewer than two bytes are left. Most units begin no pair, and for these the next is not
+// looked at: else a text takes up to half as long again.
 #[tactic(auto, using(crate::proofs::Text::steps))]
 fn next_shown(bytes: &[u8], i: usize) -> Option<Step>
     requires { i ≤ length bytes.now }
     ensures { MatchOption result (length bytes.now ≤ i + 1) (λ s. Shows bytes.now i s.shown s.next) }
 {
     let u = unit_at(bytes, i)?;
-    if let Some(v) = unit_at(bytes, i + 2) {
-        if is_pair(u, v) {
-            return Some(Step {
-                shown: None,
-                next: i + 4,
-            });
+    if is_high(u) {
+        if let Some(v) = unit_at(bytes, i + 2) {
+            if is_pair(u, v) {
+                return Some(Step {
+                    shown: None,
+                    next: i + 4,
+                });
+            }
         }
     }
     Some(Step {

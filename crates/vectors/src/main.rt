@@ -6,7 +6,7 @@
 mod answers;
 
 use answers::{Fault, ROOM, answer};
-use lines::compare::{compare_input, wrong};
+use lines::compare::{compare_input, malformed, wrong};
 use lines::text::Hex;
 use lines::words::unhex;
 use std::io;
@@ -36,6 +36,7 @@ fn is_right<W: Write>(out: &mut W, line: &[u8]) -> io::Result<bool> {
     match answered(line, &mut room) {
         Ok((_, true)) => Ok(true),
         Ok((computed, false)) => wrong(out, line, Hex(computed)),
+        Err(Fault::Malformed) => malformed(out, line),
         Err(fault) => wrong(out, line, fault),
     }
 }

@@ -1,17 +1,30 @@
--- A byte more: its two digits stand behind those so far.
-use Rattle.std.proofs.Common.{rules, ◌≡◌, ◌<◌, ℕ, List, [], ◌++◌, length, take, false, ◌+◌, ◌∙◌, ap, arith, sym}
-use Rattle.std.proofs.Output.{has_written_append, has_written_of_eq}
-use Rattle.std.proofs.lemmas.Fmt.{hex_byte}
-use Rattle.std.proofs.lemmas.List.{take_more, flat_map_more}
+-- A chunk more: its digits stand behind those so far.
+use Rattle.std.proofs.Common.{rules, ◌≡◌, ℕ, List, ◌++◌, ◌∙◌, ap, sym, append_assoc}
+use Rattle.std.proofs.Output.{has_written_append}
+use Rattle.std.proofs.lemmas.List.Concat.{flat_map-append}
 use Rattle.std.specs.List.{flat_map}
+use Rattle.std.specs.Slice.Iter.{chunks_rest}
 use Rattle.lines.specs.Hex.{hex_pair}
 use Rattle.lines.proofs.text.write_pairs.Goals as goal
-use lib.ListN.{get_or}
 
--- the digits of one byte more
-more : (bs : List ℕ) (i : ℕ) → i < length bs → flat_map hex_pair (take i bs) ++ hex_pair (get_or bs i 0) ≡ flat_map hex_pair (take (i + 1) bs)
-more bs i within = flat_map_more hex_pair [] (take i bs) (get_or bs i 0) ∙ sym (ap (flat_map hex_pair) (take_more bs i 0 within))
+-- the digits of a chunk, and those of what is behind it
+chunk_first : (all chunk rest : List ℕ) → all ≡ chunk ++ rest → flat_map hex_pair chunk ++ flat_map hex_pair rest ≡ flat_map hex_pair all
+chunk_first all chunk rest parts = sym (flat_map-append hex_pair chunk rest) ∙ ap (flat_map hex_pair) (sym parts)
 
-pub loop-b-preserved : goal.loop-b-preserved
-loop-b-preserved g c = λ p. has_written_of_eq _ _ _ _ _ (more c.args.bytes.now c.loop-b.b-index (omega arith)) (has_written_append _ _ _ _ _ _ (c.loop-b.invariant p)
-    (has_written_of_eq _ _ _ _ _ (hex_byte false (get_or c.args.bytes.now c.loop-b.b-index 0) (omega (arith, c.type_inv.bytes c.loop-b.b-index))) (search rules)))
+pub loop-chunk-preserved : goal.loop-chunk-preserved
+loop-chunk-preserved g c =
+    let chunk = c.in-Some.chunk.now in
+    let steps = c.in-Some.ensures.steps in
+    let shown : c.in-Ok.text.now ≡ flat_map hex_pair chunk = c.in-Ok.ensures.cases.0 ∙ c.pairs.ensures in (
+      search rules,
+      tt,
+      steps.0 ∙ c.loop-chunk.invariant.2,
+      λ plain.
+          let so_far = c.loop-chunk.invariant.3 plain in (
+            so_far.0 ++ c.in-Ok.text.now,
+            has_written_append _ _ _ _ _ _ so_far.1 (search rules),
+            append_assoc so_far.0 _ _
+                ∙ ap (λ (t : List ℕ). so_far.0 ++ t) (rw shown (chunk_first _ chunk (chunks_rest c.next.new.self) steps.1.0))
+                ∙ so_far.2,
+          ),
+    )

@@ -3,19 +3,15 @@
 use borrow.Author.Rules.{rules}
 use mathlib.Core.Path.{◌≡◌, sym, ap, ap₂, ◌∙◌}
 use mathlib.Core.List.{List}
-use Prim.Native.Nat.{ℕ, ◌≤◌, ◌<◌}
+use Prim.Native.Nat.{ℕ, ◌+◌, ◌<◌}
 use native.Mathlib.Omega.{arith}
 use mir.Syntax.{w64}
 use mir.Val.{Fits}
-use lib.ListN.{length, get_or, set}
-use lib.Seq.{get_or-set_other}
-use Rattle.drom.specs.Header.{body_start}
+use lib.ListN.{length, get_or}
 use Rattle.feed.specs.Run.{Run, step_of, steps}
 use Rattle.feed.specs.Feed.{run_in, state_after}
-use Rattle.feed.proofs.BoundsLaws.{start_small}
 use Rattle.feed.proofs.WithinLaws.{good_of}
-use Rattle.feed.proofs.StepLaws.{next, step_kept, kept_more}
-use Rattle.feed.proofs.EndLaws.{rest_all}
+use Rattle.feed.proofs.EndLaws.{rest_all, rest_long}
 use Rattle.feed.specs.Loop.{Good}
 use Rattle.feed.proofs.FeedLaws.{Held, held_start, turn_to, held_end}
 use Rattle.feed.proofs.AlongLaws.{through_still, held_through, held_passes}
@@ -36,18 +32,17 @@ pub loop-i-preserved-then-n-ne0 : goal.loop-i-preserved-then-n-ne0
 loop-i-preserved-then-n-ne0 c =
     held_through _ _ _ _ _ _ _ (λ j. (c.type_inv.piece j).fits) c.loop-i.invariant (rest_all c.args.piece.now c.loop-i.i) c.take_entries-n.ensures
 
+pub keep_middle-i-requires : goal.keep_middle-i-requires
+keep_middle-i-requires c =
+    let l = c.loop-i in
+    let more : l.self.core.fill + 1 < get_or l.self.pending 0 0 = omega (arith, c.from.ensures, c.if-fill-from.true) in
+    (record { going = c.if-self-ne0.false; late = c.if-at-gt21.true; some = omega (arith, c.if-fill-eq0.false); more = more }, omega (arith, l.invariant.left, rest_long c.args.piece.now l.i c.loop-i-test.true))
+
 pub loop-i-preserved-then-fill-from : goal.loop-i-preserved-then-fill-from
 loop-i-preserved-then-fill-from c =
     let l = c.loop-i in
-    let r : Run = run_in l.self l.records in
-    let b = get_or c.args.piece.now l.i 0 in
-    let q = c.if-fill-eq0.false in
-    let d : c.from.result ≡ get_or (set r.pending r.core.fill b) 0 0 =
-    c.from.ensures ∙ sym (get_or-set_other r.pending r.core.fill 0 b 0 (λ z. q (sym z)))
-    in
-    let s : body_start r.header ≤ r.core.taken = omega (arith, start_small r.header, c.if-at-gt21.true) in
-    turn_to _ _ r l.i _ l.invariant c.loop-i-test.true (c.type_inv.piece l.i).fits
-    (step_kept r b c.if-self-ne0.false (omega (arith, c.if-at-gt21.true)) s q ∙ kept_more (next r) b _ d c.if-fill-from.true)
+    let led = c.keep_middle-i.ensures.through l.records in
+    held_through _ _ _ _ _ _ _ (λ j. (c.type_inv.piece j).fits) l.invariant (rest_all c.args.piece.now l.i) led
 
 -- by whichever way a step is reached, nothing was taken in this turn
 ready : (r₀ r r' : Run) (xs : List ℕ) (i : ℕ) → Held r₀ xs r i → i < length xs → r' ≡ r → Good r' × (r'.core.taken < r'.core.announced)

@@ -60,7 +60,8 @@ impl<const N: usize> fmt::Write for Text<N> {
         let end = start + n;
         let bytes = s.as_bytes();
         let room = &mut self.bytes[..];
-        room[start..end].copy_from_slice(&bytes[..n]);
+        // By a loop: most of what is written is a digit or a space, and for these a call of `memcpy` costs more.
+        bits::put_all(&bytes[..n], &mut room[start..end]);
         self.len = end;
         Ok(())
     }

@@ -1,6 +1,6 @@
 // Parts of the caller's own bytes: the header, the body, the whole DROM, and the n-th accepted entry. The names are the Rust's,
-// where `Drom` has them; `head` is its `header`. Where there is no such part it is the empty one at the DROM's front, which document 01
-// asks for, and no bytes from elsewhere.
+// where `Drom` has them; `head` is its `header`. Where there is no such part it is the empty one, as document 01 and the clauses have it:
+// ours is the DROM's from 0 to 0, so that a part is always one of the DROM's own.
 ghost use Rattle.std.specs.Prelude.{◌≡◌, ◌<◌, ◌≤◌, IfSome, length, drop};
 ghost use Rattle.std.specs.Option.{unwrap_or};
 ghost use Rattle.entry.specs.Adapters.{kind_in};

@@ -1,4 +1,4 @@
--- Turns of the loops over bytes and over units, as laws. The check finds them by itself, so that no proof cites them; docs/PORT.md names them.
+-- Turns of the loops over bytes and over units, as laws. The check finds them by itself, so that no proof cites them; docs/PORT.md and docs/DESIGN-PASS.md name them.
 -- Assumes nothing.
 use Rattle.std.proofs.Common.{◌≡◌, refl, ℕ, suc, ◌+◌, ◌-◌, ◌*◌, ◌<◌, Option, Some, None, List, [], ◌∷◌, ◌++◌, length, get_or, take, drop, set, sym, ap, ◌∙◌, ap₂, le_of_eq, append_assoc, add-one, arith, length-drop, length-append, length-set, take_all, drop-cons, drop-drop, take-suc-set, drop-set-lt}
 use Rattle.util.specs.Crc.{over}

@@ -1,5 +1,5 @@
--- What `char_len` tells of the character at the front of some bytes, which `is_utf8` steps by.
--- Only a private function's contract cites it; no public promise rests on it.
+-- What `char_len` tells of the character at the front of some bytes, which `is_utf8` steps by, and what `is_two`, `is_three` and `is_four` test.
+-- Only private functions' contracts cite these; no public promise rests on them.
 -- Assumes nothing.
 use Rattle.std.specs.Prelude.{◌≡◌, ℕ, ◌<◌, ◌≤◌, false, List, length, get_or, drop, Option, Some, None}
 use Rattle.util.specs.Utf8.{is_utf8}

@@ -44,10 +44,7 @@ impl<const N: usize> Text<N> {
     // Adds what a value displays. Nothing can fail, since a text that does not fit is cut. No clause says which text stands
     // there, since a value may end in an error, and `Display` promises nothing of what it wrote before.
     pub fn put<D: fmt::Display + Drop>(&mut self, value: D) {
-        // Nothing more stands in a text that is full.
-        if self.len < N {
-            let _ = self.write(value);
-        }
+        let _ = self.write(value);
     }
 }
 

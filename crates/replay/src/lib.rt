@@ -10,6 +10,7 @@
 mod answers;
 mod feeding;
 mod reports;
+mod row;
 
 use answers::{Answer, answer};
 use lines::compare::{malformed, wrong};

@@ -1,4 +1,5 @@
 // A report and a lent buffer as text.
+use super::row::Row;
 use drom::Report;
 use lines::text::Hex;
 use std::fmt;
@@ -13,19 +14,21 @@ pub(crate) struct Fields(pub Report);
 impl fmt::Display for Fields {
     fn fmt<W: fmt::Write>(&self, f: &mut fmt::Formatter<W>) -> fmt::Result {
         let Fields(r) = self;
-        let crc32good = u8::from(r.crc32good);
-        let crc8good = u8::from(r.crc8good);
-        write!(
-            f,
-            "{} {} {} {} {} ",
-            r.number, r.offset, r.version, r.length, r.start
-        )?;
-        write!(
-            f,
-            "{:08x} {crc32good} {:02x} {:016x} {crc8good} ",
-            r.crc32, r.crc8, r.uuid
-        )?;
-        write!(f, "{} {}", r.records, r.bytes)
+        // A row is written from its last field to its first.
+        let mut row = Row::new();
+        row.put_decimal(r.bytes as u64);
+        row.put_decimal(r.records as u64);
+        row.put_decimal(u64::from(r.crc8good));
+        row.put_hex(&r.uuid.to_be_bytes());
+        row.put_hex(&r.crc8.to_be_bytes());
+        row.put_decimal(u64::from(r.crc32good));
+        row.put_hex(&r.crc32.to_be_bytes());
+        row.put_decimal(r.start as u64);
+        row.put_decimal(r.length as u64);
+        row.put_decimal(u64::from(r.version));
+        row.put_decimal(r.offset as u64);
+        row.put_decimal(u64::from(r.number));
+        row.fmt(f)
     }
 }
 

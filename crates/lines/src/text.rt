@@ -8,7 +8,7 @@ use std::fmt::Write;
 use std::marker::Model;
 use std::{fmt, str};
 
-// A text that does not fit is cut, and then differs from any that was expected.
+// A text that does not fit is cut, and so differs from any whole one that was expected.
 #[derive(Drop)]
 pub struct Text<const N: usize> {
     bytes: [u8; N],

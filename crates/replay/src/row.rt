@@ -9,8 +9,9 @@ use std::{fmt, str};
 // A report's twelve fields, each with a space before it, take 146 bytes at most.
 const ROW: usize = 192;
 
-// A row is written from its last byte to its first, as the digits of a number come out, and then shown by one write: a dozen
-// numbers by std's formatter take longer than the finish that they tell of. What the row cannot hold is left out.
+// A row is written from its last field to its first, since a number's digits come out from the last to the first, and then shown
+// by one write: with each number by std's formatter, a program that shows little else takes nearly twice as long. A field is left
+// out, or its space, where the row may not hold it; no report comes near.
 #[derive(Drop)]
 pub(crate) struct Row {
     bytes: [u8; ROW],
